@@ -1,0 +1,150 @@
+ghost use Rattle.std.specs.Prelude.{◌≡◌, [], ◌∷◌, ◌++◌, OnOk, OnErr};
+ghost use Rattle.press_fault.specs.Plane.{IsWithin};
+
+use crate::Rings;
+use press_fault::Mem;
+use press_nums::Wide;
+use std::alloc::Global;
+use std::marker::Model;
+
+/// The inside rule of a polygon.
+#[derive(Clone, Copy, Debug, PartialEq, Eq)]
+pub enum Rule {
+    Nonzero,
+    EvenOdd,
+}
+
+/// A disc, by its centre and its radius, in sub-dots.
+#[derive(Clone, Copy, Debug, PartialEq, Eq)]
+pub struct Disc {
+    pub x: i64,
+    pub y: i64,
+    pub r: i64,
+}
+
+impl Model for Disc {
+    ghost use Rattle.page_model.specs.Disc.{Round, IsDisc};
+
+    ghost Value = { Round };
+
+    ghost view = { λ d. record { x = d.x; y = d.y; r = d.r } };
+
+    ghost invariant = { λ d. IsDisc (record { x = d.x; y = d.y; r = d.r }) };
+
+    ghost inverse = { λ v. record { x = v.x; y = v.y; r = v.r } };
+}
+
+impl Disc {
+    pub fn wide_x(self) -> Wide
+        ensures value { result ≡ self.x }
+        ensures bound { IsWithin result }
+    {
+        Wide::of(self.x)
+    }
+
+    pub fn wide_y(self) -> Wide
+        ensures value { result ≡ self.y }
+        ensures bound { IsWithin result }
+    {
+        Wide::of(self.y)
+    }
+
+    pub fn wide_r(self) -> Wide
+        ensures value { result ≡ self.r }
+        ensures bound { IsWithin result }
+    {
+        Wide::of(self.r)
+    }
+}
+
+/// A part of a mark.
+#[derive(Drop)]
+pub enum Shape {
+    Poly(Rings),
+    Disc(Disc),
+}
+
+/// Several shapes.
+#[derive(Drop)]
+pub struct Shapes {
+    shapes: Vec<Shape>,
+}
+
+impl Model for Shapes {
+    ghost use Rattle.std.specs.Prelude.{List};
+    ghost use Rattle.page_model.specs.declared.shape.Shape.{Shape};
+
+    ghost Value = { List Shape };
+
+    ghost view = { λ s. s.shapes.items };
+}
+
+impl Shapes {
+    pub fn new(alloc: Global) -> Self
+        ensures { result ≡ [] }
+    {
+        Shapes {
+            shapes: Vec::new(alloc),
+        }
+    }
+
+    pub fn push(&mut self, item: Shape) -> Mem<()>
+        ensures ok { OnOk result (self.new ≡ self.old ++ item ∷ []) }
+        ensures err { OnErr result (self.new ≡ self.old) }
+    {
+        self.shapes.push(item)?;
+        Ok(())
+    }
+
+    pub fn items(&self) -> &[Shape]
+        ensures { result.now ≡ self.now }
+    {
+        &self.shapes
+    }
+}
+
+/// A part of a clip.
+#[derive(Drop)]
+pub struct Region {
+    pub rule: Rule,
+    pub rings: Rings,
+}
+
+/// The regions that a mark is cut to.
+#[derive(Drop)]
+pub struct Clip {
+    regions: Vec<Region>,
+}
+
+impl Model for Clip {
+    ghost use Rattle.std.specs.Prelude.{List};
+    ghost use Rattle.page_model.specs.declared.shape.Region.{Region};
+
+    ghost Value = { List Region };
+
+    ghost view = { λ c. c.regions.items };
+}
+
+impl Clip {
+    pub fn new(alloc: Global) -> Self
+        ensures { result ≡ [] }
+    {
+        Clip {
+            regions: Vec::new(alloc),
+        }
+    }
+
+    pub fn push(&mut self, item: Region) -> Mem<()>
+        ensures ok { OnOk result (self.new ≡ self.old ++ item ∷ []) }
+        ensures err { OnErr result (self.new ≡ self.old) }
+    {
+        self.regions.push(item)?;
+        Ok(())
+    }
+
+    pub fn items(&self) -> &[Region]
+        ensures { result.now ≡ self.now }
+    {
+        &self.regions
+    }
+}

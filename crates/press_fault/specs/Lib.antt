@@ -1,0 +1,4 @@
+pub mod Plane
+pub mod Names
+pub mod Held
+pub mod Outcome

@@ -1,0 +1,98 @@
+ghost use Rattle.std.specs.Prelude.{◌≡◌, [], ◌∷◌};
+ghost use Rattle.press_fault.specs.Plane.{IsWithin};
+
+use press_nums::Wide;
+use std::marker::Model;
+
+/// A point of the page, in sub-dots (1/256 dot).
+#[derive(Clone, Copy, Debug, PartialEq, Eq)]
+pub struct Point {
+    pub x: i64,
+    pub y: i64,
+}
+
+impl Model for Point {
+    ghost use Rattle.press_fault.specs.Plane.{Spot, IsOnPlane};
+
+    ghost Value = { Spot };
+
+    ghost view = { λ p. record { x = p.x; y = p.y } };
+
+    ghost invariant = { λ p. IsOnPlane (record { x = p.x; y = p.y }) };
+
+    ghost inverse = { λ s. record { x = s.x; y = s.y } };
+}
+
+impl Point {
+    pub fn new(x: i64, y: i64) -> Point
+        requires x { IsWithin x }
+        requires y { IsWithin y }
+        ensures { result ≡ record { x = x; y = y } }
+    {
+        Point { x, y }
+    }
+
+    pub fn of_wide(x: Wide, y: Wide) -> Point
+        requires x { IsWithin x }
+        requires y { IsWithin y }
+        ensures { result ≡ record { x = x; y = y } }
+    {
+        Point {
+            x: x.narrow(),
+            y: y.narrow(),
+        }
+    }
+
+    pub fn wide_x(self) -> Wide
+        ensures value { result ≡ self.x }
+        ensures bound { IsWithin result }
+    {
+        Wide::of(self.x)
+    }
+
+    pub fn wide_y(self) -> Wide
+        ensures value { result ≡ self.y }
+        ensures bound { IsWithin result }
+    {
+        Wide::of(self.y)
+    }
+}
+
+/// A colour code: `n` channels, 1, 3 or 4, and their values; unused places are 0.
+#[derive(Clone, Copy, Debug, PartialEq, Eq)]
+pub struct Code {
+    pub n: u8,
+    pub c: [u8; 4],
+}
+
+impl Model for Code {
+    ghost use Rattle.press_fault.specs.Plane.{Channels, IsCode};
+
+    ghost Value = { Channels };
+
+    ghost view = { λ code. record { n = code.n; c = code.c } };
+
+    ghost invariant = { λ code. IsCode code.n code.c };
+
+    ghost inverse = { λ v. record { n = v.n; c = v.c } };
+}
+
+impl Code {
+    pub fn rgb(red: u8, green: u8, blue: u8) -> Code
+        ensures { result ≡ record { n = 3; c = red ∷ green ∷ blue ∷ 0 ∷ [] } }
+    {
+        Code {
+            n: 3,
+            c: [red, green, blue, 0],
+        }
+    }
+
+    pub fn gray(value: u8) -> Code
+        ensures { result ≡ record { n = 1; c = value ∷ 0 ∷ 0 ∷ 0 ∷ [] } }
+    {
+        Code {
+            n: 1,
+            c: [value, 0, 0, 0],
+        }
+    }
+}

@@ -1,0 +1,129 @@
+//! Fixed-point numbers.
+ghost use Rattle.std.specs.Prelude.{◌≡◌, ◌≤◌, ◌<◌, ◌^◌, ◌*◌, ℤ, pos, unsigned_abs, ◌+ℤ◌, ◌-ℤ◌, ◌*ℤ◌};
+ghost use Rattle.press_nums.specs.Fix.{fix_of, product_of, quotient_of};
+
+use crate::whole::Whole;
+use crate::wide::Wide;
+use std::marker::Model;
+
+/// A number of 1/65536, from -2^47 to 2^47 - 1 of them.
+#[derive(Clone, Copy, Debug, PartialEq, Eq, Hash)]
+pub struct Fix {
+    n: i64,
+}
+
+impl Model for Fix {
+    ghost use Rattle.std.specs.Prelude.{ℤ};
+    ghost use Rattle.press_nums.specs.Fix.{IsFix};
+
+    ghost Value = { ℤ };
+
+    ghost view = { λ f. f.n };
+
+    ghost invariant = { λ f. IsFix f.n };
+
+    ghost inverse = { λ z. record { n = z } };
+}
+
+impl Fix {
+    pub fn of_int(v: i32) -> Fix
+        ensures { result ≡ v *ℤ pos 65536 }
+    {
+        Fix {
+            n: i64::from(v) * 65536,
+        }
+    }
+
+    /// The number of an integer.
+    pub fn of_whole(v: Whole) -> Fix
+        ensures { result ≡ v *ℤ pos 65536 }
+    {
+        Fix::of_int(v.get())
+    }
+
+    pub fn of_raw(n: i64) -> Option<Fix>
+        ensures { result ≡ fix_of n }
+    {
+        if -0x8000_0000_0000 <= n && n < 0x8000_0000_0000 {
+            Some(Fix { n })
+        } else {
+            None
+        }
+    }
+
+    pub fn raw(self) -> i64
+        ensures value { result ≡ self }
+        ensures bound { unsigned_abs result ≤ 2 ^ 47 }
+    {
+        self.n
+    }
+
+    pub fn wide(self) -> Wide
+        ensures value { result ≡ self }
+        ensures bound { unsigned_abs result ≤ 2 ^ 47 }
+    {
+        Wide::of(self.n)
+    }
+}
+
+/// The Fix of so many 1/65536, if there is one.
+pub fn fix_from(raw: Wide) -> Option<Fix>
+    ensures { result ≡ fix_of raw }
+{
+    if Wide::of(-0x8000_0000_0000).is_at_most(raw) && raw.is_below(Wide::of(0x8000_0000_0000)) {
+        Some(Fix { n: raw.narrow() })
+    } else {
+        None
+    }
+}
+
+pub fn fix_add(a: Fix, b: Fix) -> Option<Fix>
+    ensures { result ≡ fix_of (a +ℤ b) }
+{
+    fix_from(a.wide() + b.wide())
+}
+
+pub fn fix_sub(a: Fix, b: Fix) -> Option<Fix>
+    ensures { result ≡ fix_of (a -ℤ b) }
+{
+    fix_from(a.wide() - b.wide())
+}
+
+/// The product of two Fix.
+pub fn wide_product(a: Fix, b: Fix) -> Wide
+    ensures value { result ≡ a *ℤ b }
+    ensures bound { unsigned_abs result ≤ 2 ^ 94 }
+{
+    a.wide() * b.wide()
+}
+
+pub fn fix_mul(a: Fix, b: Fix) -> Option<Fix>
+    ensures { result ≡ product_of a b }
+{
+    fix_from(wide_product(a, b).div_round(Wide::of(65536)))
+}
+
+pub fn fix_div(a: Fix, b: Fix) -> Option<Fix>
+    ensures { result ≡ quotient_of a b }
+{
+    let divisor = b.wide();
+    if divisor.is_zero() {
+        None
+    } else if divisor.is_below(Wide::ZERO) {
+        fix_from(
+            (Wide::ZERO - a.wide())
+                .times(65536)
+                .div_round(Wide::ZERO - divisor),
+        )
+    } else {
+        fix_from(a.wide().times(65536).div_round(divisor))
+    }
+}
+
+/// A small number of 1/65536.
+pub fn fix_small(raw: Wide) -> Fix
+    requires { unsigned_abs raw < 2 ^ 47 }
+    ensures { result ≡ raw }
+{
+    Fix { n: raw.narrow() }
+}

@@ -1,0 +1,14 @@
+//! Whole and fixed-point numbers, with exact rounding.
+#![tactic(auto)]
+
+mod decimal;
+mod fix;
+mod root;
+mod whole;
+mod wide;
+
+pub use decimal::{decimal_fix, power_of_ten};
+pub use fix::{Fix, fix_add, fix_div, fix_from, fix_mul, fix_small, fix_sub, wide_product};
+pub use root::{icbrt, isqrt};
+pub use whole::{Whole, whole_from};
+pub use wide::{Wide, div_round};
