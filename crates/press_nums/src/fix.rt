@@ -1,7 +1,8 @@
 //! Fixed-point numbers.
-ghost use Rattle.std.specs.Prelude.{◌≡◌, ◌≤◌, ◌<◌, ◌^◌, ◌*◌, ℤ, pos, unsigned_abs, ◌+ℤ◌, ◌-ℤ◌, ◌*ℤ◌};
-ghost use Rattle.press_nums.specs.Fix.{fix_of, product_of, quotient_of};
+ghost use Rattle.std.specs.Prelude.{◌≡◌, ◌≤◌, ◌<◌, ◌^◌, ◌*◌, ℤ, pos, neg_ℤ, unsigned_abs, ◌+ℤ◌, ◌-ℤ◌, ◌*ℤ◌};
+ghost use Rattle.press_nums.specs.Fix.{fix_of, product_of, quotient_of, floor_of, ceiling_of, nearest_of, truncation_of, fix_root_of};
 
+use crate::root::isqrt;
 use crate::whole::Whole;
 use crate::wide::Wide;
 use std::marker::Model;
@@ -58,11 +59,69 @@ impl Fix {
         self.n
     }
 
+    /// The raw value, for sums, products and comparisons.
     pub fn wide(self) -> Wide
         ensures value { result ≡ self }
         ensures bound { unsigned_abs result ≤ 2 ^ 47 }
     {
         Wide::of(self.n)
+    }
+
+    /// The negative, `None` exactly out of range.
+    pub fn negated(self) -> Option<Fix>
+        ensures { result ≡ fix_of (neg_ℤ self) }
+    {
+        fix_from(self.wide().negated())
+    }
+
+    /// The magnitude, `None` exactly out of range.
+    pub fn magnitude(self) -> Option<Fix>
+        ensures { result ≡ fix_of (pos (unsigned_abs self)) }
+    {
+        fix_from(Wide::of_size(self.wide().size()))
+    }
+
+    /// The greatest integer that isn't above this number.
+    pub fn floor(self) -> Fix
+        ensures { result ≡ floor_of self *ℤ pos 65536 }
+    {
+        Fix::of_whole(self.floored())
+    }
+
+    /// The greatest integer that isn't above this number, as an integer.
+    pub fn floored(self) -> Whole
+        ensures { result ≡ floor_of self }
+    {
+        Whole::of(self.n.div_euclid(65536) as i32)
+    }
+
+    /// The least integer that isn't below this number, `None` exactly out of range.
+    pub fn ceiling(self) -> Option<Fix>
+        ensures { result ≡ fix_of (ceiling_of self *ℤ pos 65536) }
+    {
+        let down = self.wide().negated().floor_quotient(Wide::of(65536));
+        fix_from(down.negated().times(65536))
+    }
+
+    /// The nearest integer, a tie going up; `None` exactly out of range.
+    pub fn round(self) -> Option<Fix>
+        ensures { result ≡ fix_of (nearest_of self *ℤ pos 65536) }
+    {
+        fix_from(self.wide().div_round(Wide::of(65536)).times(65536))
+    }
+
+    /// The integer next to this number on the side of zero.
+    pub fn truncate(self) -> Fix
+        ensures { result ≡ truncation_of self *ℤ pos 65536 }
+    {
+        Fix::of_whole(self.truncated())
+    }
+
+    /// The integer next to this number on the side of zero, as an integer.
+    pub fn truncated(self) -> Whole
+        ensures { result ≡ truncation_of self }
+    {
+        Whole::of((self.n / 65536) as i32)
     }
 }
 
@@ -106,17 +165,10 @@ pub fn fix_mul(a: Fix, b: Fix) -> Option<Fix>
 pub fn fix_div(a: Fix, b: Fix) -> Option<Fix>
     ensures { result ≡ quotient_of a b }
 {
-    let divisor = b.wide();
-    if divisor.is_zero() {
+    if b.wide().is_zero() {
         None
-    } else if divisor.is_below(Wide::ZERO) {
-        fix_from(
-            (Wide::ZERO - a.wide())
-                .times(65536)
-                .div_round(Wide::ZERO - divisor),
-        )
     } else {
-        fix_from(a.wide().times(65536).div_round(divisor))
+        fix_from(a.wide().times(65536).div_round_signed(b.wide()))
     }
 }
 
@@ -126,4 +178,11 @@ pub fn fix_small(raw: Wide) -> Fix
     ensures { result ≡ raw }
 {
     Fix { n: raw.narrow() }
+}
+
+/// The square root of the magnitude, rounded down to 1/65536.
+pub fn fix_root(a: Fix) -> Fix
+    ensures { result ≡ fix_root_of a }
+{
+    fix_small(Wide::of_size(u128::from(isqrt(a.wide().size() * 65536))))
 }
