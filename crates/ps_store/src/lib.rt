@@ -12,5 +12,5 @@ pub use fault::OpFault;
 pub use key::{Entries, Key};
 pub use numbers::{byte_in, place_in};
 pub use obj::{DataOp, FlowOp, Obj, Oper, PageOp, Span, StackOp};
-pub use stack::Stack;
+pub use stack::{MAX_OPERANDS, Stack};
 pub use store::{Bytes, Composite, Elements, Store};
