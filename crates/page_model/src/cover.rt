@@ -1,12 +1,16 @@
 //! Which dots a mark covers, and the colour of a dot.
-ghost use Rattle.std.specs.Prelude.{◌≡◌, ◌<◌, ◌^◌, ◌+◌, ◌-◌, ℕ, List, min, ◌*ℤ◌, unsigned_abs, All, reverse};
+ghost use Rattle.std.specs.Prelude.{◌≡◌, ◌<◌, ◌≤◌, ◌^◌, ◌+◌, ◌-◌, ◌*◌, ℕ, List, min, ◌*ℤ◌, unsigned_abs, All, reverse};
 ghost use Rattle.std.specs.List.{find, list_any, list_all};
 ghost use Rattle.std.specs.Option.{option_copied};
 ghost use Rattle.press_fault.specs.Plane.{Channels};
-ghost use Rattle.page_model.specs.Cover.{covers_dot, shape_holds, region_holds, disc_holds, plain_rgb, dot_rgb, mark_rgb, HasTint};
+ghost use Rattle.page_model.specs.Marking.{painting_of, IsSuited};
+ghost use Rattle.page_model.specs.Page.{HasKnownSource, IsNumbered, ink_source};
+ghost use Rattle.page_model.specs.Sample.{code_at};
+ghost use Rattle.page_model.specs.Cover.{covers_dot, shape_holds, region_holds, disc_holds, image_holds, plain_rgb, dot_rgb, mark_rgb, ink_rgb, sample_ink, InkHasChannels, ImageHasChannels, HasChannels};
 
 use crate::inside::{centre_of, do_rings_hold};
-use crate::{Disc, Ink, Mark, Page, Paint, Region, Rule, Shape};
+use crate::sample::{code_at, mask_paints, sample_at};
+use crate::{Disc, Image, Ink, Mark, Page, Paint, Region, Rule, Shape};
 use press_fault::Code;
 use press_nums::Wide;
 
@@ -15,8 +19,22 @@ use press_nums::Wide;
 pub fn covers(mark: &Mark, row: u32, col: u32) -> bool
     ensures { result ≡ covers_dot row col mark.now }
 {
-    is_in_some_shape(mark.rule, mark.shapes.items(), row, col)
+    (is_in_some_shape(mark.rule, mark.shapes.items(), row, col) || is_in_image(mark, row, col))
         && is_in_each_region(mark.clip.items(), row, col)
+}
+
+/// Whether the image of a mark has a sample at a dot, which a mask has to paint.
+fn is_in_image(mark: &Mark, row: u32, col: u32) -> bool
+    ensures { result ≡ image_holds row col mark.now.paint }
+{
+    match &mark.paint {
+        Paint::Flat(_) => false,
+        Paint::Image(image) => sample_at(image, row, col).is_some(),
+        Paint::Mask(image, _) => match sample_at(image, row, col) {
+            Some(sample) => mask_paints(image, sample),
+            None => false,
+        },
+    }
 }
 
 fn is_in_some_shape(rule: Rule, shapes: &[Shape], row: u32, col: u32) -> bool
@@ -110,11 +128,12 @@ fn light(ink: u8, black: u8) -> u8
 /// The colour of the last mark that covers a dot, white where none does.
 #[tactic(auto, unfolding(crate::specs::Cover::dot_rgb))]
 pub fn plain_dot<T: Table>(page: &Page, row: u32, col: u32, table: &T) -> [u8; 3]
-    requires { All (HasTint (T.sources table.now) (T.channels table.now)) page.now.marks }
+    requires sources { page.now.sources ≤ T.sources table.now }
+    requires channels { All (HasChannels (T.channels table.now)) page.now.marks }
     ensures { result ≡ dot_rgb (T.tint table.now) page.now.marks row col }
 {
     match topmost(page.marks.items(), row, col) {
-        Some(mark) => ink_of(mark, table),
+        Some(mark) => mark_colour(mark, row, col, table),
         None => [255, 255, 255],
     }
 }
@@ -126,13 +145,43 @@ fn topmost(marks: &[Mark], row: u32, col: u32) -> Option<&Mark>
     marks.iter().rev().find(|mark| covers(mark, row, col))
 }
 
-fn ink_of<T: Table>(mark: &Mark, table: &T) -> [u8; 3]
-    requires { HasTint (T.sources table.now) (T.channels table.now) mark.now }
-    ensures { result ≡ mark_rgb (T.tint table.now) mark.now }
+/// The colour of a mark at a dot that it covers.
+fn mark_colour<T: Table>(mark: &Mark, row: u32, col: u32, table: &T) -> [u8; 3]
+    requires sources { HasKnownSource (T.sources table.now) mark.now }
+    requires channels { HasChannels (T.channels table.now) mark.now }
+    ensures { result ≡ mark_rgb (T.tint table.now) row col mark.now }
 {
-    let Paint::Flat(ink) = &mark.paint;
+    match &mark.paint {
+        Paint::Flat(ink) => ink_colour(*ink, table),
+        Paint::Image(image) => match sample_at(image, row, col) {
+            Some(sample) => sample_colour(image, sample, table),
+            None => [255, 255, 255],
+        },
+        Paint::Mask(_, ink) => ink_colour(*ink, table),
+    }
+}
+
+/// The colour of a sample, by its image's source if there is one.
+fn sample_colour<T: Table>(image: &Image, sample: u32, table: &T) -> [u8; 3]
+    requires sample { sample < image.now.width * image.now.rows }
+    requires sources { IsNumbered (T.sources table.now) image.now.source }
+    requires channels { ImageHasChannels (T.channels table.now) image.now.channels image.now.source }
+    ensures { result ≡ ink_rgb (T.tint table.now) (sample_ink image.now.source (code_at image.now sample)) }
+{
+    let code = code_at(image, sample);
+    match image.source {
+        Some(source) => table.colour(source, code),
+        None => plain_rule(code),
+    }
+}
+
+fn ink_colour<T: Table>(ink: Ink, table: &T) -> [u8; 3]
+    requires sources { IsNumbered (T.sources table.now) (ink_source ink) }
+    requires channels { InkHasChannels (T.channels table.now) ink }
+    ensures { result ≡ ink_rgb (T.tint table.now) ink }
+{
     match ink {
-        Ink::Plain(code) => plain_rule(*code),
-        Ink::Linked { source, code } => table.colour(*source, *code),
+        Ink::Plain(code) => plain_rule(code),
+        Ink::Linked { source, code } => table.colour(source, code),
     }
 }

@@ -1,8 +1,8 @@
-ghost use Rattle.std.specs.Prelude.{◌≡◌, [], ◌∷◌, ◌++◌, OnOk, OnErr};
+ghost use Rattle.std.specs.Prelude.{◌≡◌, ◌<◌, ◌^◌, [], ◌∷◌, ◌++◌, OnOk, OnErr, pos};
 ghost use Rattle.press_fault.specs.Plane.{IsWithin};
 
 use crate::Rings;
-use press_fault::Mem;
+use press_fault::{Mem, Point};
 use press_nums::Wide;
 use std::alloc::Global;
 use std::marker::Model;
@@ -14,12 +14,12 @@ pub enum Rule {
     EvenOdd,
 }
 
-/// A disc, by its centre and its radius, in sub-dots.
+/// A disc, by its centre and its radius, in sub-dots; the radius is below 2^44.
 #[derive(Clone, Copy, Debug, PartialEq, Eq)]
 pub struct Disc {
     pub x: i64,
     pub y: i64,
-    pub r: i64,
+    pub r: u64,
 }
 
 impl Model for Disc {
@@ -35,6 +35,18 @@ impl Model for Disc {
 }
 
 impl Disc {
+    /// The disc round a point.
+    pub fn new(centre: Point, r: u64) -> Disc
+        requires { r < 2 ^ 44 }
+        ensures { result ≡ record { x = centre.x; y = centre.y; r = r } }
+    {
+        Disc {
+            x: centre.x,
+            y: centre.y,
+            r,
+        }
+    }
+
     pub fn wide_x(self) -> Wide
         ensures value { result ≡ self.x }
         ensures bound { IsWithin result }
@@ -50,21 +62,21 @@ impl Disc {
     }
 
     pub fn wide_r(self) -> Wide
-        ensures value { result ≡ self.r }
+        ensures value { result ≡ pos self.r }
         ensures bound { IsWithin result }
     {
-        Wide::of(self.r)
+        Wide::of_size(u128::from(self.r))
     }
 }
 
-/// A part of a mark.
+/// A part of a mark: a polygon of closed rings, by the mark's inside rule, or a disc.
 #[derive(Drop)]
 pub enum Shape {
     Poly(Rings),
     Disc(Disc),
 }
 
-/// Several shapes.
+/// The shapes of a mark.
 #[derive(Drop)]
 pub struct Shapes {
     shapes: Vec<Shape>,
@@ -103,14 +115,14 @@ impl Shapes {
     }
 }
 
-/// A part of a clip.
+/// A part of a clip: closed rings and their inside rule.
 #[derive(Drop)]
 pub struct Region {
     pub rule: Rule,
     pub rings: Rings,
 }
 
-/// The regions that a mark is cut to.
+/// The regions that a mark is cut to: a dot has to be in each of them.
 #[derive(Drop)]
 pub struct Clip {
     regions: Vec<Region>,

@@ -1,0 +1,39 @@
+-- Pages. Own rule: a page has at most 16384 dots a side, 67108864 dots and 1000000 marks.
+use Rattle.std.specs.Prelude.{ℕ, ◌*◌, ◌<◌, ◌≤◌, List, length, All, Option, Some, None}
+use Rattle.page_model.specs.Marking.{Marking, Painting, Flatly, Pictured, Masked}
+use Rattle.page_model.specs.declared.mark.Ink.{Ink}
+use Rattle.page_model.specs.declared.mark.Ink.TheVariants.{Plain, Linked}
+
+-- a page's size in dots, how many sources its codes come from, and its marks, the lowest first
+pub record Sheet : Type 0 where
+  pub width : ℕ
+  pub height : ℕ
+  pub sources : ℕ
+  pub marks : List Marking
+
+-- the number of a source, if there is one, is below the count of sources
+abbrev pub IsNumbered : ℕ → Option ℕ → Type 0
+IsNumbered sources None = Unit {0}
+IsNumbered sources (Some source) = source < sources
+
+-- the source of an ink, if it has one
+abbrev pub ink_source : Ink → Option ℕ
+ink_source (Plain code) = None
+ink_source (Linked source code) = Some source
+
+-- the source of a mark's colours, if it has one
+abbrev pub painting_source : Painting → Option ℕ
+painting_source (Flatly ink) = ink_source ink
+painting_source (Pictured image) = image.source
+painting_source (Masked image ink) = ink_source ink
+
+abbrev pub HasKnownSource : ℕ → Marking → Type 0
+HasKnownSource sources mark = IsNumbered sources (painting_source mark.paint)
+
+-- what a page of this size, with so many sources, keeps
+pub record IsPage (w h sources : ℕ) (marks : List Marking) : Type 0 where
+  pub width : w ≤ 16384
+  pub height : h ≤ 16384
+  pub dots : w * h ≤ 67108864
+  pub few : length marks ≤ 1000000
+  pub known : All (HasKnownSource sources) marks
