@@ -1,0 +1,64 @@
+-- Tokens (PostScript Language Reference, third edition, 3.2 Syntax).
+use Rattle.std.specs.Prelude.{◌≡◌, ℕ, ◌==◌, ◌<◌, ◌≤◌, Bool, true, false, not, ◌||◌, List, [], ◌∷◌, length, drop}
+use Rattle.std.specs.List.{filter}
+use Rattle.ps_scan.specs.Characters.{is_hex, is_hex_or_white, is_greater, pairs, is_white, is_line_end, is_regular, begins, IsRun, white_after}
+use Rattle.ps_scan.specs.Strings.{Body}
+use Rattle.ps_scan.specs.Numbers.{IsInteger, decimal_value, with_sign, fits_int}
+use Rattle.ps_scan.specs.declared.token.Token.TheVariants.{Int, Literal, Exec, Now, Text, Open, Close, End}
+use Rattle.ps_scan.specs.Outcome.{Outcome}
+use Rattle.ps_scan.specs.Outcome.Outcome.{Gives, BreaksSyntax, PassesLimit}
+
+abbrev pub is_blank : ℕ → Bool
+is_blank c = is_white c || c == 37
+
+abbrev pub is_less : ℕ → Bool
+is_less c = c == 60
+
+abbrev pub is_solidus : ℕ → Bool
+is_solidus c = c == 47
+
+-- white space and comments, and the text behind them
+pub data Skips : List ℕ → List ℕ → Type 0 where
+  NoBlank : (text : List ℕ) → begins is_blank text ≡ false → Skips text text
+  White : (c : ℕ) (text rest : List ℕ) → is_white c ≡ true → Skips text rest → Skips (c ∷ text) rest
+  Comment : (text body behind rest : List ℕ) → IsRun (λ c. not (is_line_end c)) text body behind → Skips behind rest → Skips (37 ∷ text) rest
+
+-- what stands behind a number or name, and the white space that goes with it
+abbrev pub behind : List ℕ → List ℕ
+behind rest = drop (white_after rest) rest
+
+-- the token at the front of a text that begins with no blank, where so many procedures are open
+pub data Reads : ℕ → List ℕ → Outcome → Type 0 where
+  AtEnd : Reads 0 [] (Gives End [])
+  Unclosed : (depth : ℕ) → 0 < depth → Reads depth [] BreaksSyntax
+  Integer : (depth : ℕ) (text run rest : List ℕ) (negative : Bool) (digits : List ℕ) → IsRun is_regular text run rest → IsInteger run negative digits → fits_int negative (decimal_value digits) ≡ true → Reads depth text (Gives (Int (with_sign negative (decimal_value digits))) (behind rest))
+  GreatInteger : (depth : ℕ) (text run rest : List ℕ) (negative : Bool) (digits : List ℕ) → IsRun is_regular text run rest → IsInteger run negative digits → fits_int negative (decimal_value digits) ≡ false → Reads depth text PassesLimit
+  Word : (depth : ℕ) (text run rest : List ℕ) → IsRun is_regular text run rest → 0 < length run → ((negative : Bool) (digits : List ℕ) → IsInteger run negative digits → ⊥) → length run ≤ 127 → Reads depth text (Gives (Exec run) (behind rest))
+  LongWord : (depth : ℕ) (text run rest : List ℕ) → IsRun is_regular text run rest → ((negative : Bool) (digits : List ℕ) → IsInteger run negative digits → ⊥) → 127 < length run → Reads depth text PassesLimit
+  Name : (depth : ℕ) (text run rest : List ℕ) → begins is_solidus text ≡ false → IsRun is_regular text run rest → length run ≤ 127 → Reads depth (47 ∷ text) (Gives (Literal run) (behind rest))
+  LongName : (depth : ℕ) (text run rest : List ℕ) → begins is_solidus text ≡ false → IsRun is_regular text run rest → 127 < length run → Reads depth (47 ∷ text) PassesLimit
+  NowName : (depth : ℕ) (text run rest : List ℕ) → IsRun is_regular text run rest → length run ≤ 127 → Reads depth (47 ∷ 47 ∷ text) (Gives (Now run) (behind rest))
+  LongNow : (depth : ℕ) (text run rest : List ℕ) → IsRun is_regular text run rest → 127 < length run → Reads depth (47 ∷ 47 ∷ text) PassesLimit
+  OpenBrace : (depth : ℕ) (text : List ℕ) → depth < 64 → Reads depth (123 ∷ text) (Gives Open text)
+  DeepBrace : (depth : ℕ) (text : List ℕ) → 64 ≤ depth → Reads depth (123 ∷ text) PassesLimit
+  CloseBrace : (depth : ℕ) (text : List ℕ) → 0 < depth → Reads depth (125 ∷ text) (Gives Close text)
+  LoneBrace : (text : List ℕ) → Reads 0 (125 ∷ text) BreaksSyntax
+  LeftBracket : (depth : ℕ) (text : List ℕ) → Reads depth (91 ∷ text) (Gives (Exec (91 ∷ [])) (behind text))
+  RightBracket : (depth : ℕ) (text : List ℕ) → Reads depth (93 ∷ text) (Gives (Exec (93 ∷ [])) (behind text))
+  -- a hexadecimal string runs up to the greater-than sign; only digits and white space may stand before it
+  HexString : (depth : ℕ) (text body rest : List ℕ) → IsRun is_hex_or_white text body (62 ∷ rest) → length (pairs (filter is_hex body)) ≤ 65535 → Reads depth (60 ∷ text) (Gives (Text (pairs (filter is_hex body))) rest)
+  LongHex : (depth : ℕ) (text body rest : List ℕ) → IsRun is_hex_or_white text body (62 ∷ rest) → 65535 < length (pairs (filter is_hex body)) → Reads depth (60 ∷ text) PassesLimit
+  BadHex : (depth : ℕ) (text body rest : List ℕ) → begins is_less text ≡ false → IsRun is_hex_or_white text body rest → begins is_greater rest ≡ false → Reads depth (60 ∷ text) BreaksSyntax
+  LessLess : (depth : ℕ) (text : List ℕ) → Reads depth (60 ∷ 60 ∷ text) (Gives (Exec (60 ∷ 60 ∷ [])) (behind text))
+  GreaterGreater : (depth : ℕ) (text : List ℕ) → Reads depth (62 ∷ 62 ∷ text) (Gives (Exec (62 ∷ 62 ∷ [])) (behind text))
+  LoneGreater : (depth : ℕ) (text : List ℕ) → begins is_greater text ≡ false → Reads depth (62 ∷ text) BreaksSyntax
+  ParenString : (depth : ℕ) (text bytes rest : List ℕ) → Body 0 text bytes rest → length bytes ≤ 65535 → Reads depth (40 ∷ text) (Gives (Text bytes) rest)
+  LongString : (depth : ℕ) (text bytes rest : List ℕ) → Body 0 text bytes rest → 65535 < length bytes → Reads depth (40 ∷ text) PassesLimit
+  OpenString : (depth : ℕ) (text : List ℕ) → ((bytes rest : List ℕ) → Body 0 text bytes rest → ⊥) → Reads depth (40 ∷ text) BreaksSyntax
+  LoneParen : (depth : ℕ) (text : List ℕ) → Reads depth (41 ∷ text) BreaksSyntax
+
+-- the same for any text
+pub record IsRead (depth : ℕ) (text : List ℕ) (outcome : Outcome) : Type 0 where
+  pub start : List ℕ
+  pub skipped : Skips text start
+  pub reads : Reads depth start outcome

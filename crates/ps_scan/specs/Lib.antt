@@ -1,0 +1,10 @@
+pub mod Characters
+pub mod Numbers
+pub mod Outcome
+pub mod Place
+pub mod Reading
+pub mod Grammar
+pub mod Strings
+pub mod Filling
+pub mod Taking
+pub mod Reals

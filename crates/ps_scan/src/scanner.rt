@@ -1,0 +1,177 @@
+//! The tokens of a program, one after another.
+ghost use Rattle.std.specs.Prelude.{◌≡◌, ◌≢◌, ◌≤◌, ◌<◌, ◌+◌, ◌*◌, ◌^◌, ◌++◌, ℕ, List, drop, take as list_take, length, min, false, None, IfOk, IfErr, IsErrOf, OnOk, OnErr, ◌↔◌};
+ghost use Rattle.ps_scan.specs.Reading.{blank_len, scanned};
+ghost use Rattle.ps_scan.specs.Filling.{hex_put, hex_used};
+ghost use Rattle.ps_scan.specs.Taking.{hex_count, hex_front, behind_hex};
+ghost use Rattle.ps_scan.specs.Outcome.{Outcome, IsWithinLimits, depth_after, IsFaultOf, GivesText};
+ghost use Rattle.ps_scan.specs.Outcome.Outcome.{Gives, BreaksSyntax, PassesLimit};
+
+use crate::characters::blank_front;
+use crate::hex::{digit_value, is_hex_digit};
+use crate::reading::read;
+use crate::token::{ScanFault, Token};
+use std::alloc::Global;
+use std::marker::Model;
+
+/// The token at the front of a text, and how many bytes it takes.
+#[tactic(auto, unfolding(crate::specs::Reading::scanned))]
+fn scan(alloc: Global, depth: u32, text: &[u8]) -> Result<(Token, usize), ScanFault>
+    requires { length text.now < 2 ^ 63 }
+    ensures ok { IfOk result (λ found. scanned depth text.now ≡ Gives found.0 (drop found.1 text.now)) }
+    ensures bound { IfOk result (λ found. found.1 ≤ length text.now) }
+    ensures limits { IfOk result (λ found. IsWithinLimits depth found.0 (drop found.1 text.now)) }
+    ensures err { IfErr result (λ fault. IsFaultOf fault (scanned depth text.now)) }
+{
+    let blank = blank_front(text);
+    let (_, start) = text.split_at(blank);
+    match read(alloc, depth, start) {
+        Ok((token, used)) => Ok((token, blank + used)),
+        Err(fault) => Err(fault),
+    }
+}
+
+/// A program's text, and the place in it.
+#[derive(Drop)]
+pub struct Scanner {
+    program: Vec<u8>,
+    at: usize,
+    depth: u32,
+}
+
+impl Model for Scanner {
+    ghost use Rattle.std.specs.Prelude.{◌≤◌, ◌<◌, ◌^◌, drop, vec_len};
+    ghost use Rattle.ps_scan.specs.Place.{Place};
+
+    ghost Value = { Place };
+
+    ghost view = { λ s. record { depth = s.depth; rest = drop s.at s.program.items } };
+
+    ghost invariant = { λ s. (s.at ≤ vec_len s.program) × (vec_len s.program < 2 ^ 63) × (s.depth ≤ 64) };
+}
+
+impl Scanner {
+    pub fn new(program: Vec<u8>) -> Scanner
+        ensures { result ≡ record { depth = 0; rest = program.items } }
+    {
+        Scanner {
+            program,
+            at: 0,
+            depth: 0,
+        }
+    }
+
+    /// How many procedures are open: the `{` given less the `}` given.
+    pub fn depth(&self) -> u32
+        ensures value { result ≡ self.now.depth }
+        ensures bound { result ≤ 64 }
+    {
+        self.depth
+    }
+
+    /// The text behind the last token and behind what was taken since.
+    pub fn rest(&self) -> &[u8]
+        ensures { result.now ≡ self.now.rest }
+    {
+        let (_, text) = self.program.split_at(self.at);
+        text
+    }
+
+    /// The next token.
+    pub fn next(&mut self, alloc: Global) -> Result<Token, ScanFault>
+        ensures ok { IfOk result (λ token. scanned self.old.depth self.old.rest ≡ Gives token self.new.rest) }
+        ensures depth { IfOk result (λ token. self.new.depth ≡ depth_after token self.old.depth) }
+        ensures limits { IfOk result (λ token. IsWithinLimits self.old.depth token self.new.rest) }
+        ensures syntax { IsErrOf result ScanFault.Syntax ↔ (scanned self.old.depth self.old.rest ≡ BreaksSyntax) }
+        ensures limit { IsErrOf result ScanFault.Limit ↔ (scanned self.old.depth self.old.rest ≡ PassesLimit) }
+        ensures memory { IsErrOf result ScanFault.NoMemory → GivesText (scanned self.old.depth self.old.rest) }
+        ensures kept { OnErr result (self.new ≡ self.old) }
+    {
+        let (_, text) = self.program.split_at(self.at);
+        match scan(alloc, self.depth, text) {
+            Ok((token, used)) => {
+                match &token {
+                    Token::Open => self.depth += 1,
+                    Token::Close => self.depth -= 1,
+                    _ => {}
+                }
+                self.at += used;
+                Ok(token)
+            }
+            Err(fault) => Err(fault),
+        }
+    }
+
+    /// Puts up to `n` bytes behind the last token, and says how many.
+    pub fn take(&mut self, n: usize, into: &mut [u8]) -> usize
+        requires { n ≤ length into.old }
+        ensures count { result ≡ min n (length self.old.rest) }
+        ensures bytes { into.new ≡ list_take result self.old.rest ++ drop result into.old }
+        ensures place { self.new ≡ record { depth = self.old.depth; rest = drop result self.old.rest } }
+    {
+        let (_, text) = self.program.split_at(self.at);
+        let count = n.min(text.len());
+        let (front, _) = text.split_at(count);
+        put_front(into, front);
+        self.at += count;
+        count
+    }
+
+    /// Puts the bytes of hexadecimal digits behind the last token, and says how many.
+    pub fn take_hex(&mut self, into: &mut [u8]) -> usize
+        ensures count { result ≡ hex_count (length into.old) self.old.rest }
+        ensures bytes { into.new ≡ hex_front (length into.old) self.old.rest ++ drop result into.old }
+        ensures place { self.new ≡ record { depth = self.old.depth; rest = behind_hex (2 * length into.old) self.old.rest } }
+    {
+        let (_, text) = self.program.split_at(self.at);
+        let (put, used) = put_hex(text, into);
+        self.at += used;
+        put
+    }
+}
+
+fn put_front(into: &mut [u8], bytes: &[u8])
+    requires { length bytes.now ≤ length into.old }
+    ensures { into.new ≡ bytes.now ++ drop (length bytes.now) into.old }
+{
+    let len = bytes.len();
+    into[..len].copy_from_slice(bytes);
+}
+
+/// How many bytes are put, and how many are read for them.
+#[tactic(auto, using(crate::proofs::Digits::put_len, crate::proofs::Digits::put_is_front, crate::proofs::Digits::left_is_behind))]
+fn put_hex(text: &[u8], into: &mut [u8]) -> (usize, usize)
+    ensures count { result.0 ≡ hex_count (length into.old) text.now }
+    ensures bytes { into.new ≡ hex_front (length into.old) text.now ++ drop result.0 into.old }
+    ensures behind { drop result.1 text.now ≡ behind_hex (2 * length into.old) text.now }
+    ensures bound { result.1 ≤ length text.now }
+{
+    fill_hex(text, into)
+}
+
+/// The same, told from left to right.
+#[tactic(auto, unfolding(crate::specs::Filling::hex_put, crate::specs::Filling::hex_used))]
+fn fill_hex(text: &[u8], into: &mut [u8]) -> (usize, usize)
+    ensures count { result.0 ≡ length (hex_put (length into.old) None text.now) }
+    ensures bytes { into.new ≡ hex_put (length into.old) None text.now ++ drop result.0 into.old }
+    ensures used { result.1 ≡ hex_used (length into.old) None text.now }
+    ensures bound { result.1 ≤ length text.now }
+{
+    let mut put = 0;
+    let mut half: Option<u8> = None;
+    for (i, c) in text.iter().enumerate() {
+        if put == into.len() {
+            return (put, i);
+        }
+        if is_hex_digit(*c) {
+            match half {
+                None => half = Some(digit_value(*c)),
+                Some(high) => {
+                    into[put] = 16 * high + digit_value(*c);
+                    put += 1;
+                    half = None;
+                }
+            }
+        }
+    }
+    (put, text.len())
+}
