@@ -1,67 +1,108 @@
-//! Keys of dictionaries, and the entries of one.
-ghost use Rattle.std.specs.Prelude.{◌≡◌, [], ◌∷◌, ◌++◌, length, OnOk, OnErr, Some, slice_get};
-ghost use Rattle.std.specs.Map.{lookup};
-ghost use Rattle.std.specs.Option.{option_copied};
-ghost use Rattle.indexmap.specs.IndexMap.{insert_entry};
-ghost use Rattle.ps_store.specs.Keys.{same_key};
+//! Keys of dictionaries.
+ghost use Rattle.std.specs.Prelude.{◌≡◌};
+ghost use Rattle.ps_store.specs.Keys.{object_of};
 
 use crate::obj::Obj;
-use indexmap::IndexMap;
-use press_fault::{Mem, Name};
-use press_nums::Fix;
-use std::alloc::Global;
-use std::marker::Model;
+use indexmap::Equivalent;
+use press_fault::Name;
+use press_nums::{Fix, Whole};
+use std::hash::{Hash, Hasher};
 
-/// A key, as it is looked up.
-#[derive(Clone, Copy, Debug, PartialEq, Eq, Hash)]
+/// A key of a dictionary. A string is the name of its bytes, and a number keeps its kind.
+#[derive(Clone, Copy, Debug)]
 pub enum Key {
     Named(Name),
-    Number(Fix),
+    Integer(Whole),
+    Real(Fix),
     Truth(bool),
 }
 
-/// The entries of a dictionary, in the order in which they were first defined.
-#[derive(Drop)]
-pub struct Entries {
-    map: IndexMap<Key, Obj>,
+/// Why an object is no key.
+#[derive(Clone, Copy, Debug, PartialEq, Eq)]
+pub enum KeyFault {
+    /// It is no name, string, number or boolean.
+    NotAKey,
+    /// It is a string of over 127 bytes.
+    TooLong,
 }
 
-impl Model for Entries {
-    ghost use Rattle.std.specs.Prelude.{List};
-    ghost use Rattle.ps_store.specs.declared.obj.Obj.{Obj};
-    ghost use Rattle.ps_store.specs.declared.key.Key.{Key};
+/// Two keys are one where they stand for the same: numbers by value, names by their bytes.
+impl PartialEq for Key {
+    ghost use Rattle.std.specs.Cmp.{partial_equiv_from_equiv};
+    ghost use Rattle.ps_store.specs.Keys.{same_key};
+    ghost use Rattle.ps_store.specs.KeyLaws.{same_key_equiv};
 
-    ghost Value = { List (Key × Obj) };
+    ghost eq = { same_key };
 
-    ghost view = { λ e. e.map.entries };
-}
+    ghost laws = { partial_equiv_from_equiv same_key_equiv };
 
-impl Entries {
-    pub fn new(alloc: Global) -> Entries
-        ensures { result ≡ [] }
-    {
-        Entries {
-            map: IndexMap::new(alloc),
+    fn eq(&self, other: &Key) -> bool {
+        match (self, other) {
+            (Key::Named(a), Key::Named(b)) => a == b,
+            (Key::Integer(a), Key::Integer(b)) => Fix::of_whole(*a) == Fix::of_whole(*b),
+            (Key::Integer(a), Key::Real(b)) => Fix::of_whole(*a) == *b,
+            (Key::Real(a), Key::Integer(b)) => *a == Fix::of_whole(*b),
+            (Key::Real(a), Key::Real(b)) => a == b,
+            (Key::Truth(a), Key::Truth(b)) => a == b,
+            _ => false,
         }
     }
+}
 
-    pub fn len(&self) -> usize
-        ensures { result ≡ length self.now }
-    {
-        self.map.len()
+impl Eq for Key {
+    ghost use Rattle.ps_store.specs.KeyLaws.{same_key_equiv};
+
+    ghost laws = { same_key_equiv };
+}
+
+impl Hash for Key {
+    ghost use Rattle.ps_store.specs.Keys.{value_of, input_of};
+    ghost use Rattle.ps_store.specs.KeyLaws.{same_keys_fed_alike};
+
+    ghost hash_input = { λ k. input_of (value_of k) };
+
+    ghost respects_eq = { same_keys_fed_alike };
+
+    fn hash<H: Hasher>(&self, state: &mut H) {
+        match self {
+            Key::Named(name) => name.hash(state),
+            Key::Integer(n) => Fix::of_whole(*n).hash(state),
+            Key::Real(raw) => raw.hash(state),
+            Key::Truth(b) => b.hash(state),
+        }
     }
+}
 
-    pub fn look_up(&self, key: &Key) -> Option<&Obj>
-        ensures { option_copied result ≡ lookup (same_key key.now) self.now }
-    {
-        self.map.get(key)
+/// A name is looked up as it is, with no key made of it.
+impl Equivalent<Key> for &Name {
+    ghost use Rattle.ps_store.specs.declared.key.Key.TheVariants.{Named};
+    ghost use Rattle.ps_store.specs.Keys.{same_key};
+    ghost use Rattle.ps_store.specs.KeyLaws.{same_key_equiv, same_keys_fed_alike};
+
+    ghost equivalent = { λ q. same_key (Named q.now) };
+
+    ghost respects_hash = { λ q. same_keys_fed_alike (Named q.now) };
+
+    ghost respects_eq = { λ q. same_key_equiv.congr (Named q.now) };
+
+    fn equivalent(&self, key: &Key) -> bool {
+        match key {
+            Key::Named(name) => *self == name,
+            _ => false,
+        }
     }
+}
 
-    pub fn define(&mut self, key: Key, value: Obj) -> Mem<()>
-        ensures ok { OnOk result (self.new ≡ insert_entry same_key self.old key value) }
-        ensures err { OnErr result (self.new ≡ self.old) }
+impl Key {
+    /// The key as an object. A name is a literal one.
+    pub fn object(&self) -> Obj
+        ensures { result ≡ object_of self.now }
     {
-        self.map.insert(key, value)?;
-        Ok(())
+        match self {
+            Key::Named(name) => Obj::Name(*name, false),
+            Key::Integer(n) => Obj::Int(*n),
+            Key::Real(raw) => Obj::Real(*raw),
+            Key::Truth(b) => Obj::Bool(*b),
+        }
     }
 }

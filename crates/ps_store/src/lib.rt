@@ -1,16 +1,28 @@
-//! Objects, the operand stack and the store.
+//! Objects, the store that keeps strings, arrays and dictionaries, and the stacks of operands and of
+//! dictionaries.
+//!
+//! Proved against `specs/Store.antt`, `specs/Keys.antt` and `specs/Dicts.antt`. What an operator
+//! answers stands in `specs/Outcome.antt`. Start with `obj.rt`, then `store.rt`.
 #![tactic(auto)]
 
+mod composite;
+mod dicts;
+mod entries;
 mod fault;
 mod key;
 mod numbers;
 mod obj;
+mod oper;
 mod stack;
 mod store;
 
+pub use composite::{Bytes, Elements};
+pub use dicts::{Dicts, SYSTEMDICT, USERDICT};
+pub use entries::{ENTRY_LIMIT, Entries};
 pub use fault::OpFault;
-pub use key::{Entries, Key};
+pub use key::{Key, KeyFault};
 pub use numbers::{byte_in, place_in};
-pub use obj::{DataOp, FlowOp, Obj, Oper, PageOp, Span, StackOp};
+pub use obj::{Obj, Span};
+pub use oper::{DataOp, FlowOp, Oper, PageOp, StackOp};
 pub use stack::{MAX_OPERANDS, Stack};
-pub use store::{Bytes, Composite, Elements, Store};
+pub use store::{Composite, Store};

@@ -1,110 +1,22 @@
 //! The store of composites: strings, arrays and dictionaries.
-ghost use Rattle.std.specs.Prelude.{◌≡◌, ◌≤◌, ◌<◌, ◌+◌, ◌*◌, ◌^◌, ◌++◌, ◌∷◌, [], ◌↔◌, ℕ, length, OnOk, OnErr, IfOk, IsErrOf, Some, None, replicate, slice_set, slice_get, slice_index_or};
+//!
+//! A read outside a composite gives null or nothing, and a write outside changes nothing.
+ghost use Rattle.std.specs.Prelude.{◌≡◌, ◌≤◌, ◌<◌, ◌+◌, ◌*◌, ◌^◌, ◌++◌, ◌∷◌, [], ◌↔◌, ℕ, true, false, length, OnOk, OnErr, IfOk, IfSome, IsErrOf, IsTrue, Some, None, replicate, slice_get, slice_index_or};
 ghost use Rattle.std.specs.Option.{option_copied};
-ghost use Rattle.ps_store.specs.Store.{Kept, fits, with_text, with_array, element, item, put_in, put_at, found, with_dict, defined, is_new_in, is_full_of, with_entry, operator_of};
+ghost use Rattle.ps_store.specs.Store.{Kept, fits, with_new, with_composite, next_span, with_text, with_text_of, with_array, with_array_of, element, item, operator_of, object_at, object_in, bytes_of, objects_of, put_in, put_at, found, found_by, entries_of, entry_at, as_objects, with_dict, defined, is_new_in, is_full_of, with_entry};
+ghost use Rattle.ps_store.specs.KeyOf.{key_of, name_key};
 
-use crate::key::{Entries, Key};
+use crate::composite::{Bytes, Elements};
+use crate::entries::{ENTRY_LIMIT, Entries};
+use crate::key::{Key, KeyFault};
 use crate::numbers::byte_in;
-use crate::obj::{Obj, Oper, Span};
-use press_fault::{Grow, Mem};
+use crate::obj::{Obj, Span};
+use crate::oper::Oper;
+use indexmap::Equivalent;
+use press_fault::{Grow, Mem, Name};
 use press_nums::Whole;
 use std::alloc::Global;
 use std::marker::Model;
-
-/// The bytes of a string.
-#[derive(Drop)]
-pub struct Bytes {
-    bytes: Vec<u8>,
-}
-
-impl Model for Bytes {
-    ghost use Rattle.std.specs.Prelude.{List, ℕ};
-
-    ghost Value = { List ℕ };
-
-    ghost view = { λ b. b.bytes.items };
-}
-
-impl Bytes {
-    pub fn zeros(alloc: Global, len: usize) -> Mem<Bytes>
-        ensures { IfOk result (λ b. b ≡ replicate len 0) }
-    {
-        Ok(Bytes {
-            bytes: vec![in alloc; 0; len]?,
-        })
-    }
-
-    pub fn set(&mut self, at: usize, value: u8)
-        ensures { self.new ≡ slice_set self.old at value }
-    {
-        if at < self.bytes.len() {
-            self.bytes[at] = value;
-        }
-    }
-
-    pub fn at(&self, at: usize) -> u8
-        ensures { result ≡ slice_index_or self.now at 0 }
-    {
-        if at < self.bytes.len() {
-            self.bytes[at]
-        } else {
-            0
-        }
-    }
-}
-
-/// The elements of an array.
-#[derive(Drop)]
-pub struct Elements {
-    items: Vec<Obj>,
-}
-
-impl Model for Elements {
-    ghost use Rattle.std.specs.Prelude.{List};
-    ghost use Rattle.ps_store.specs.declared.obj.Obj.{Obj};
-
-    ghost Value = { List Obj };
-
-    ghost view = { λ e. e.items.items };
-}
-
-impl Elements {
-    pub fn nulls(alloc: Global, len: usize) -> Mem<Elements>
-        ensures { IfOk result (λ e. e ≡ replicate len Obj.Null) }
-    {
-        Ok(Elements {
-            items: vec![in alloc; Obj::Null; len]?,
-        })
-    }
-
-    pub fn set(&mut self, at: usize, value: Obj)
-        ensures { self.new ≡ slice_set self.old at value }
-    {
-        if at < self.items.len() {
-            self.items[at] = value;
-        }
-    }
-
-    pub(crate) fn operator_at(&self, at: usize) -> Option<Oper>
-        ensures { result ≡ operator_of (slice_index_or self.now at Obj.Null) }
-    {
-        if at < self.items.len() {
-            as_operator(&self.items[at])
-        } else {
-            None
-        }
-    }
-
-    pub fn at(&self, at: usize) -> Obj
-        ensures { result ≡ slice_index_or self.now at Obj.Null }
-    {
-        if at < self.items.len() {
-            self.items[at]
-        } else {
-            Obj::Null
-        }
-    }
-}
 
 /// A composite.
 #[derive(Drop)]
@@ -162,11 +74,22 @@ impl Store {
         if len > 65_535 || !self.fits(1, u64::from(len)) {
             return Err(Grow::LimitCheck);
         }
-        let id = self.made.len() as u32;
         let bytes = Bytes::zeros(self.alloc, len as usize)?;
-        self.made.push(Composite::Text(bytes))?;
-        self.units += u64::from(len);
-        Ok(Span { id, start: 0, len })
+        Ok(self.add(Composite::Text(bytes), len, u64::from(len))?)
+    }
+
+    /// Makes a string of these bytes.
+    pub fn new_text_of(&mut self, bytes: &[u8]) -> Result<Span, Grow>
+        ensures ok { IfOk result (λ span. with_text_of self.old bytes.now ≡ Some (span, self.new)) }
+        ensures limit { IsErrOf result Grow.LimitCheck ↔ (with_text_of self.old bytes.now ≡ None) }
+        ensures err { OnErr result (self.new ≡ self.old) }
+    {
+        if bytes.len() > 65_535 || !self.fits(1, bytes.len() as u64) {
+            return Err(Grow::LimitCheck);
+        }
+        let len = bytes.len() as u32;
+        let bytes = Bytes::of(self.alloc, bytes)?;
+        Ok(self.add(Composite::Text(bytes), len, u64::from(len))?)
     }
 
     /// Makes an array of so many nulls.
@@ -178,10 +101,34 @@ impl Store {
         if len > 65_535 || !self.fits(1, 16 * u64::from(len)) {
             return Err(Grow::LimitCheck);
         }
-        let id = self.made.len() as u32;
         let items = Elements::nulls(self.alloc, len as usize)?;
-        self.made.push(Composite::Array(items))?;
-        self.units += 16 * u64::from(len);
+        Ok(self.add(Composite::Array(items), len, 16 * u64::from(len))?)
+    }
+
+    /// Makes an array of these objects.
+    pub fn new_array_of(&mut self, items: &[Obj]) -> Result<Span, Grow>
+        ensures ok { IfOk result (λ span. with_array_of self.old items.now ≡ Some (span, self.new)) }
+        ensures limit { IsErrOf result Grow.LimitCheck ↔ (with_array_of self.old items.now ≡ None) }
+        ensures err { OnErr result (self.new ≡ self.old) }
+    {
+        if items.len() > 65_535 || !self.fits(1, 16 * items.len() as u64) {
+            return Err(Grow::LimitCheck);
+        }
+        let len = items.len() as u32;
+        let items = Elements::of(self.alloc, items)?;
+        Ok(self.add(Composite::Array(items), len, 16 * u64::from(len))?)
+    }
+
+    /// Adds a composite of so many places and units, and gives the whole of it.
+    pub(crate) fn add(&mut self, c: Composite, len: u32, units: u64) -> Mem<Span>
+        requires short { len ≤ 65535 }
+        requires room { IsTrue (fits self.old 1 units) }
+        ensures ok { IfOk result (λ span. (span ≡ next_span self.old len) × (self.new ≡ with_new self.old c units)) }
+        ensures err { OnErr result (self.new ≡ self.old) }
+    {
+        let id = self.made.len() as u32;
+        self.made.push(c)?;
+        self.units += units;
         Ok(Span { id, start: 0, len })
     }
 
@@ -194,12 +141,12 @@ impl Store {
         if !self.fits(1, 0) {
             return Err(Grow::LimitCheck);
         }
-        let id = self.made.len() as u32;
-        self.made.push(Composite::Dict(Entries::new(self.alloc)))?;
-        Ok(id)
+        let entries = Entries::new(self.alloc);
+        let whole = self.add(Composite::Dict(entries), 0, 0)?;
+        Ok(whole.id)
     }
 
-    /// Gives a key of a dictionary a value.
+    /// Gives a key of a dictionary a value. A key that is there keeps its place and its kind.
     pub fn define(&mut self, dict: u32, key: Key, value: Obj) -> Result<(), Grow>
         ensures ok { OnOk result (defined self.old dict key value ≡ Some self.new) }
         ensures limit { IsErrOf result Grow.LimitCheck ↔ (defined self.old dict key value ≡ None) }
@@ -231,7 +178,21 @@ impl Store {
         }
     }
 
-    /// The operator that stands at a place, None where something else does.
+    /// The object that stands at a place of an array, `None` where there is none.
+    pub fn at(&self, span: Span, at: u32) -> Option<&Obj>
+        ensures value { option_copied result ≡ object_at self.now span at }
+        ensures element { IfSome result (λ o. o.now ≡ element self.now span at) }
+    {
+        let place = span.start as usize + at as usize;
+        match self.made.get(span.id as usize) {
+            Some(Composite::Array(items)) => items.get(place),
+            Some(Composite::Text(_)) => None,
+            Some(Composite::Dict(_)) => None,
+            None => None,
+        }
+    }
+
+    /// The operator that stands at a place, `None` where something else does.
     pub fn operator_at(&self, span: Span, at: u32) -> Option<Oper>
         ensures { result ≡ operator_of (element self.now span at) }
     {
@@ -239,6 +200,30 @@ impl Store {
         match self.made.get(span.id as usize) {
             Some(c) => operator_in(c, place),
             None => None,
+        }
+    }
+
+    /// The bytes of a part of a string. A part of something else has none.
+    pub fn bytes(&self, span: Span) -> &[u8]
+        ensures { result.now ≡ bytes_of self.now span }
+    {
+        match self.made.get(span.id as usize) {
+            Some(Composite::Text(bytes)) => bytes.part(span.start as usize, span.len as usize),
+            Some(Composite::Array(_)) => &[],
+            Some(Composite::Dict(_)) => &[],
+            None => &[],
+        }
+    }
+
+    /// The objects of a part of an array. A part of something else has none.
+    pub fn objects(&self, span: Span) -> &[Obj]
+        ensures { result.now ≡ objects_of self.now span }
+    {
+        match self.made.get(span.id as usize) {
+            Some(Composite::Array(items)) => items.part(span.start as usize, span.len as usize),
+            Some(Composite::Text(_)) => &[],
+            Some(Composite::Dict(_)) => &[],
+            None => &[],
         }
     }
 
@@ -253,8 +238,37 @@ impl Store {
         }
     }
 
+    /// The key that an object is. A string is the name of its bytes, of which there are at most 127.
+    pub fn key_of(&self, o: &Obj) -> Result<Key, KeyFault>
+        ensures { result ≡ key_of self.now o.now }
+    {
+        match o {
+            Obj::Name(name, _) => Ok(Key::Named(*name)),
+            Obj::Int(n) => Ok(Key::Integer(*n)),
+            Obj::Real(raw) => Ok(Key::Real(*raw)),
+            Obj::Bool(b) => Ok(Key::Truth(*b)),
+            Obj::Text(span) => key_of_bytes(self.bytes(*span)),
+            _ => Err(KeyFault::NotAKey),
+        }
+    }
+
+    /// The value of a key in a dictionary.
     pub fn look_up(&self, dict: u32, key: &Key) -> Option<&Obj>
         ensures { option_copied result ≡ found self.now dict key.now }
+    {
+        self.look_up_by(dict, key)
+    }
+
+    /// The value of a name in a dictionary.
+    pub fn look_up_name(&self, dict: u32, name: &Name) -> Option<&Obj>
+        ensures { option_copied result ≡ found self.now dict (Key.Named name.now) }
+    {
+        self.look_up_by(dict, name)
+    }
+
+    /// The value of what stands for a key in a dictionary.
+    pub(crate) fn look_up_by<Q: Equivalent<Key>>(&self, dict: u32, key: Q) -> Option<&Obj>
+        ensures { option_copied result ≡ found_by self.now dict (Q.equivalent key) }
     {
         match self.made.get(dict as usize) {
             Some(Composite::Dict(entries)) => entries.look_up(key),
@@ -262,6 +276,50 @@ impl Store {
             Some(Composite::Array(_)) => None,
             None => None,
         }
+    }
+
+    /// The number of entries of a dictionary.
+    pub fn entries(&self, dict: u32) -> u32
+        ensures length { result ≡ length (entries_of self.now dict) }
+        ensures bound { result ≤ 65535 }
+    {
+        match self.made.get(dict as usize) {
+            Some(Composite::Dict(entries)) => entries.len() as u32,
+            Some(Composite::Text(_)) => 0,
+            Some(Composite::Array(_)) => 0,
+            None => 0,
+        }
+    }
+
+    /// The key and the value of an entry, by its place in the order of first definition. The key is
+    /// as it was first defined, a name as a literal one. Outside it gives two nulls.
+    pub fn entry(&self, dict: u32, at: u32) -> (Obj, Obj)
+        ensures { result ≡ entry_at self.now dict at }
+    {
+        match self.made.get(dict as usize) {
+            Some(Composite::Dict(entries)) => pair_at(entries, at as usize),
+            Some(Composite::Text(_)) => (Obj::Null, Obj::Null),
+            Some(Composite::Array(_)) => (Obj::Null, Obj::Null),
+            None => (Obj::Null, Obj::Null),
+        }
+    }
+}
+
+fn key_of_bytes(bytes: &[u8]) -> Result<Key, KeyFault>
+    ensures { result ≡ name_key bytes.now }
+{
+    match Name::of(bytes) {
+        Some(name) => Ok(Key::Named(name)),
+        None => Err(KeyFault::TooLong),
+    }
+}
+
+fn pair_at(entries: &Entries, at: usize) -> (Obj, Obj)
+    ensures { result ≡ as_objects (slice_get entries.now at) }
+{
+    match entries.at(at) {
+        Some((key, value)) => (key.object(), *value),
+        None => (Obj::Null, Obj::Null),
     }
 }
 
@@ -312,13 +370,14 @@ fn is_full(c: &Composite) -> bool
     ensures { result ≡ is_full_of c.now }
 {
     match c {
-        Composite::Dict(entries) => entries.len() >= 65_535,
+        Composite::Dict(entries) => entries.len() >= ENTRY_LIMIT,
         Composite::Text(_) => false,
         Composite::Array(_) => false,
     }
 }
 
 fn define_in(c: &mut Composite, key: Key, value: Obj) -> Mem<()>
+    requires { is_new_in c.old key ≡ true → is_full_of c.old ≡ false }
     ensures ok { OnOk result (c.new ≡ with_entry c.old key value) }
     ensures err { OnErr result (c.new ≡ c.old) }
 {
@@ -336,14 +395,5 @@ fn operator_in(c: &Composite, i: usize) -> Option<Oper>
         Composite::Array(items) => items.operator_at(i),
         Composite::Text(_) => None,
         Composite::Dict(_) => None,
-    }
-}
-
-fn as_operator(o: &Obj) -> Option<Oper>
-    ensures { result ≡ operator_of o.now }
-{
-    match o {
-        Obj::Oper(op) => Some(*op),
-        _ => None,
     }
 }

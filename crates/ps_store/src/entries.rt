@@ -1,0 +1,76 @@
+//! The entries of a dictionary.
+ghost use Rattle.std.specs.Prelude.{◌≡◌, ◌≤◌, ◌<◌, [], length, not, OnOk, OnErr, IsNone, slice_get};
+ghost use Rattle.std.specs.Map.{lookup};
+ghost use Rattle.std.specs.Option.{option_copied, option_map};
+ghost use Rattle.std.specs.Map.Iter.{deref_pair};
+ghost use Rattle.indexmap.specs.IndexMap.{insert_entry};
+ghost use Rattle.ps_store.specs.Keys.{same_key};
+
+use crate::key::Key;
+use crate::obj::Obj;
+use indexmap::{Equivalent, IndexMap};
+use press_fault::Mem;
+use std::alloc::Global;
+use std::marker::Model;
+
+/// The most entries that a dictionary has.
+pub const ENTRY_LIMIT: usize = 65_535;
+
+/// The entries of a dictionary, in the order in which they were first defined.
+#[derive(Drop)]
+pub struct Entries {
+    map: IndexMap<Key, Obj>,
+}
+
+impl Model for Entries {
+    ghost use Rattle.std.specs.Prelude.{List, length, ◌≤◌};
+    ghost use Rattle.ps_store.specs.declared.obj.Obj.{Obj};
+    ghost use Rattle.ps_store.specs.declared.key.Key.{Key};
+
+    ghost Value = { List (Key × Obj) };
+
+    ghost view = { λ e. e.map.entries };
+
+    ghost invariant = { λ e. length e.map.entries ≤ 65535 };
+}
+
+impl Entries {
+    pub fn new(alloc: Global) -> Entries
+        ensures { result ≡ [] }
+    {
+        Entries {
+            map: IndexMap::new(alloc),
+        }
+    }
+
+    pub fn len(&self) -> usize
+        ensures length { result ≡ length self.now }
+        ensures bound { result ≤ 65535 }
+    {
+        self.map.len()
+    }
+
+    /// The value of a key.
+    pub fn look_up<Q: Equivalent<Key>>(&self, key: Q) -> Option<&Obj>
+        ensures { option_copied result ≡ lookup (Q.equivalent key) self.now }
+    {
+        self.map.get(key)
+    }
+
+    /// The key and the value at a place.
+    pub fn at(&self, place: usize) -> Option<(&Key, &Obj)>
+        ensures { option_map deref_pair result ≡ slice_get self.now place }
+    {
+        self.map.get_index(place)
+    }
+
+    /// Gives a key a value. One that is there keeps its place and its kind.
+    pub fn define(&mut self, key: Key, value: Obj) -> Mem<()>
+        requires { IsNone (lookup (same_key key) self.old) → length self.old < 65535 }
+        ensures ok { OnOk result (self.new ≡ insert_entry same_key self.old key value) }
+        ensures err { OnErr result (self.new ≡ self.old) }
+    {
+        self.map.insert(key, value)?;
+        Ok(())
+    }
+}

@@ -1,0 +1,374 @@
+//! The operators, by the crate that does each, with their numbers and names.
+ghost use Rattle.std.specs.Prelude.{◌≡◌};
+ghost use Rattle.ps_store.specs.Operators.{number_of, name_of, stack_name_of, data_name_of, flow_name_of, page_name_of, operators_built};
+
+/// Operators on the operands alone, and `copy`.
+#[derive(Clone, Copy, Debug, PartialEq, Eq)]
+pub enum StackOp {
+    Pop = 0,
+    Exch = 1,
+    Dup = 2,
+    Clear = 3,
+    Count = 4,
+    Copy = 5,
+    Index = 6,
+    Roll = 7,
+    Mark = 8,
+    OpenArray = 9,
+    OpenDict = 10,
+    Cleartomark = 11,
+    Counttomark = 12,
+    Add = 13,
+    Sub = 14,
+    Mul = 15,
+    Div = 16,
+    Idiv = 17,
+    Mod = 18,
+    Neg = 19,
+    Abs = 20,
+    Ceiling = 21,
+    Floor = 22,
+    Round = 23,
+    Truncate = 24,
+    Sqrt = 25,
+    Sin = 26,
+    Cos = 27,
+    Cvi = 28,
+    Cvr = 29,
+    Eq = 30,
+    Ne = 31,
+    Gt = 32,
+    Ge = 33,
+    Lt = 34,
+    Le = 35,
+    And = 36,
+    Or = 37,
+    Xor = 38,
+    Not = 39,
+    Bitshift = 40,
+}
+
+/// Operators on composites, dictionaries and names, and those that read from the program.
+#[derive(Clone, Copy, Debug, PartialEq, Eq)]
+pub enum DataOp {
+    True = 41,
+    False = 42,
+    Null = 43,
+    Array = 44,
+    String = 45,
+    Dict = 46,
+    CloseArray = 47,
+    CloseDict = 48,
+    Length = 49,
+    Get = 50,
+    Put = 51,
+    Getinterval = 52,
+    Putinterval = 53,
+    Aload = 54,
+    Astore = 55,
+    Begin = 56,
+    End = 57,
+    Def = 58,
+    Load = 59,
+    Known = 60,
+    Where = 61,
+    Currentdict = 62,
+    Systemdict = 63,
+    Userdict = 64,
+    Cvn = 65,
+    Cvx = 66,
+    Cvlit = 67,
+    Xcheck = 68,
+    Type = 69,
+    Currentfile = 82,
+    Readstring = 83,
+    Readhexstring = 84,
+}
+
+/// Operators on the execution stack, and `bind`.
+#[derive(Clone, Copy, Debug, PartialEq, Eq)]
+pub enum FlowOp {
+    Exec = 70,
+    If = 71,
+    Ifelse = 72,
+    For = 73,
+    Repeat = 74,
+    Loop = 75,
+    Forall = 76,
+    Exit = 77,
+    Stop = 78,
+    Stopped = 79,
+    Bind = 81,
+}
+
+/// Operators of graphics and pages, and `quit`.
+#[derive(Clone, Copy, Debug, PartialEq, Eq)]
+pub enum PageOp {
+    Quit = 80,
+    Currentgray = 95,
+    Setgray = 96,
+    Setrgbcolor = 97,
+    Setcmykcolor = 98,
+    Rectfill = 128,
+    Showpage = 134,
+    Erasepage = 135,
+}
+
+/// An operator. Its crate is that of its kind.
+#[derive(Clone, Copy, Debug, PartialEq, Eq)]
+pub enum Oper {
+    Stack(StackOp),
+    Data(DataOp),
+    Flow(FlowOp),
+    Page(PageOp),
+}
+
+/// The operators that are built, in the order of their numbers.
+const BUILT: [Oper; 92] = [
+    Oper::Stack(StackOp::Pop),
+    Oper::Stack(StackOp::Exch),
+    Oper::Stack(StackOp::Dup),
+    Oper::Stack(StackOp::Clear),
+    Oper::Stack(StackOp::Count),
+    Oper::Stack(StackOp::Copy),
+    Oper::Stack(StackOp::Index),
+    Oper::Stack(StackOp::Roll),
+    Oper::Stack(StackOp::Mark),
+    Oper::Stack(StackOp::OpenArray),
+    Oper::Stack(StackOp::OpenDict),
+    Oper::Stack(StackOp::Cleartomark),
+    Oper::Stack(StackOp::Counttomark),
+    Oper::Stack(StackOp::Add),
+    Oper::Stack(StackOp::Sub),
+    Oper::Stack(StackOp::Mul),
+    Oper::Stack(StackOp::Div),
+    Oper::Stack(StackOp::Idiv),
+    Oper::Stack(StackOp::Mod),
+    Oper::Stack(StackOp::Neg),
+    Oper::Stack(StackOp::Abs),
+    Oper::Stack(StackOp::Ceiling),
+    Oper::Stack(StackOp::Floor),
+    Oper::Stack(StackOp::Round),
+    Oper::Stack(StackOp::Truncate),
+    Oper::Stack(StackOp::Sqrt),
+    Oper::Stack(StackOp::Sin),
+    Oper::Stack(StackOp::Cos),
+    Oper::Stack(StackOp::Cvi),
+    Oper::Stack(StackOp::Cvr),
+    Oper::Stack(StackOp::Eq),
+    Oper::Stack(StackOp::Ne),
+    Oper::Stack(StackOp::Gt),
+    Oper::Stack(StackOp::Ge),
+    Oper::Stack(StackOp::Lt),
+    Oper::Stack(StackOp::Le),
+    Oper::Stack(StackOp::And),
+    Oper::Stack(StackOp::Or),
+    Oper::Stack(StackOp::Xor),
+    Oper::Stack(StackOp::Not),
+    Oper::Stack(StackOp::Bitshift),
+    Oper::Data(DataOp::True),
+    Oper::Data(DataOp::False),
+    Oper::Data(DataOp::Null),
+    Oper::Data(DataOp::Array),
+    Oper::Data(DataOp::String),
+    Oper::Data(DataOp::Dict),
+    Oper::Data(DataOp::CloseArray),
+    Oper::Data(DataOp::CloseDict),
+    Oper::Data(DataOp::Length),
+    Oper::Data(DataOp::Get),
+    Oper::Data(DataOp::Put),
+    Oper::Data(DataOp::Getinterval),
+    Oper::Data(DataOp::Putinterval),
+    Oper::Data(DataOp::Aload),
+    Oper::Data(DataOp::Astore),
+    Oper::Data(DataOp::Begin),
+    Oper::Data(DataOp::End),
+    Oper::Data(DataOp::Def),
+    Oper::Data(DataOp::Load),
+    Oper::Data(DataOp::Known),
+    Oper::Data(DataOp::Where),
+    Oper::Data(DataOp::Currentdict),
+    Oper::Data(DataOp::Systemdict),
+    Oper::Data(DataOp::Userdict),
+    Oper::Data(DataOp::Cvn),
+    Oper::Data(DataOp::Cvx),
+    Oper::Data(DataOp::Cvlit),
+    Oper::Data(DataOp::Xcheck),
+    Oper::Data(DataOp::Type),
+    Oper::Flow(FlowOp::Exec),
+    Oper::Flow(FlowOp::If),
+    Oper::Flow(FlowOp::Ifelse),
+    Oper::Flow(FlowOp::For),
+    Oper::Flow(FlowOp::Repeat),
+    Oper::Flow(FlowOp::Loop),
+    Oper::Flow(FlowOp::Forall),
+    Oper::Flow(FlowOp::Exit),
+    Oper::Flow(FlowOp::Stop),
+    Oper::Flow(FlowOp::Stopped),
+    Oper::Page(PageOp::Quit),
+    Oper::Flow(FlowOp::Bind),
+    Oper::Data(DataOp::Currentfile),
+    Oper::Data(DataOp::Readstring),
+    Oper::Data(DataOp::Readhexstring),
+    Oper::Page(PageOp::Currentgray),
+    Oper::Page(PageOp::Setgray),
+    Oper::Page(PageOp::Setrgbcolor),
+    Oper::Page(PageOp::Setcmykcolor),
+    Oper::Page(PageOp::Rectfill),
+    Oper::Page(PageOp::Showpage),
+    Oper::Page(PageOp::Erasepage),
+];
+
+impl Oper {
+    /// The operator's place in the table of all operators, from 0. The table also names those that
+    /// aren't built, so there are gaps.
+    pub fn number(self) -> u8
+        ensures { result ≡ number_of self }
+    {
+        match self {
+            Oper::Stack(op) => op as u8,
+            Oper::Data(op) => op as u8,
+            Oper::Flow(op) => op as u8,
+            Oper::Page(op) => op as u8,
+        }
+    }
+
+    /// The name by which a program calls the operator.
+    pub fn name(self) -> &'static str
+        ensures { result.now ≡ name_of self }
+    {
+        match self {
+            Oper::Stack(op) => stack_name(op),
+            Oper::Data(op) => data_name(op),
+            Oper::Flow(op) => flow_name(op),
+            Oper::Page(op) => page_name(op),
+        }
+    }
+
+    /// The operators that are built, in the order of their numbers.
+    pub fn built() -> &'static [Oper]
+        ensures { result.now ≡ operators_built }
+    {
+        &BUILT
+    }
+}
+
+fn stack_name(op: StackOp) -> &'static str
+    ensures { result.now ≡ stack_name_of op }
+{
+    match op {
+        StackOp::Pop => "pop",
+        StackOp::Exch => "exch",
+        StackOp::Dup => "dup",
+        StackOp::Clear => "clear",
+        StackOp::Count => "count",
+        StackOp::Copy => "copy",
+        StackOp::Index => "index",
+        StackOp::Roll => "roll",
+        StackOp::Mark => "mark",
+        StackOp::OpenArray => "[",
+        StackOp::OpenDict => "<<",
+        StackOp::Cleartomark => "cleartomark",
+        StackOp::Counttomark => "counttomark",
+        StackOp::Add => "add",
+        StackOp::Sub => "sub",
+        StackOp::Mul => "mul",
+        StackOp::Div => "div",
+        StackOp::Idiv => "idiv",
+        StackOp::Mod => "mod",
+        StackOp::Neg => "neg",
+        StackOp::Abs => "abs",
+        StackOp::Ceiling => "ceiling",
+        StackOp::Floor => "floor",
+        StackOp::Round => "round",
+        StackOp::Truncate => "truncate",
+        StackOp::Sqrt => "sqrt",
+        StackOp::Sin => "sin",
+        StackOp::Cos => "cos",
+        StackOp::Cvi => "cvi",
+        StackOp::Cvr => "cvr",
+        StackOp::Eq => "eq",
+        StackOp::Ne => "ne",
+        StackOp::Gt => "gt",
+        StackOp::Ge => "ge",
+        StackOp::Lt => "lt",
+        StackOp::Le => "le",
+        StackOp::And => "and",
+        StackOp::Or => "or",
+        StackOp::Xor => "xor",
+        StackOp::Not => "not",
+        StackOp::Bitshift => "bitshift",
+    }
+}
+
+fn data_name(op: DataOp) -> &'static str
+    ensures { result.now ≡ data_name_of op }
+{
+    match op {
+        DataOp::True => "true",
+        DataOp::False => "false",
+        DataOp::Null => "null",
+        DataOp::Array => "array",
+        DataOp::String => "string",
+        DataOp::Dict => "dict",
+        DataOp::CloseArray => "]",
+        DataOp::CloseDict => ">>",
+        DataOp::Length => "length",
+        DataOp::Get => "get",
+        DataOp::Put => "put",
+        DataOp::Getinterval => "getinterval",
+        DataOp::Putinterval => "putinterval",
+        DataOp::Aload => "aload",
+        DataOp::Astore => "astore",
+        DataOp::Begin => "begin",
+        DataOp::End => "end",
+        DataOp::Def => "def",
+        DataOp::Load => "load",
+        DataOp::Known => "known",
+        DataOp::Where => "where",
+        DataOp::Currentdict => "currentdict",
+        DataOp::Systemdict => "systemdict",
+        DataOp::Userdict => "userdict",
+        DataOp::Cvn => "cvn",
+        DataOp::Cvx => "cvx",
+        DataOp::Cvlit => "cvlit",
+        DataOp::Xcheck => "xcheck",
+        DataOp::Type => "type",
+        DataOp::Currentfile => "currentfile",
+        DataOp::Readstring => "readstring",
+        DataOp::Readhexstring => "readhexstring",
+    }
+}
+
+fn flow_name(op: FlowOp) -> &'static str
+    ensures { result.now ≡ flow_name_of op }
+{
+    match op {
+        FlowOp::Exec => "exec",
+        FlowOp::If => "if",
+        FlowOp::Ifelse => "ifelse",
+        FlowOp::For => "for",
+        FlowOp::Repeat => "repeat",
+        FlowOp::Loop => "loop",
+        FlowOp::Forall => "forall",
+        FlowOp::Exit => "exit",
+        FlowOp::Stop => "stop",
+        FlowOp::Stopped => "stopped",
+        FlowOp::Bind => "bind",
+    }
+}
+
+fn page_name(op: PageOp) -> &'static str
+    ensures { result.now ≡ page_name_of op }
+{
+    match op {
+        PageOp::Quit => "quit",
+        PageOp::Currentgray => "currentgray",
+        PageOp::Setgray => "setgray",
+        PageOp::Setrgbcolor => "setrgbcolor",
+        PageOp::Setcmykcolor => "setcmykcolor",
+        PageOp::Rectfill => "rectfill",
+        PageOp::Showpage => "showpage",
+        PageOp::Erasepage => "erasepage",
+    }
+}
