@@ -2,6 +2,7 @@
 #![tactic(auto)]
 
 mod fault;
+mod gathering;
 mod key;
 mod numbers;
 mod obj;
