@@ -9,6 +9,7 @@ mod composite;
 mod dicts;
 mod entries;
 mod fault;
+mod gathering;
 mod key;
 mod numbers;
 mod obj;

@@ -1,0 +1,22 @@
+-- Many objects at once, between strings, arrays and the operands.
+-- Own rule: what moves several objects reads all of them before it writes the first one, and
+-- writes them in order.
+use Rattle.std.specs.Prelude.{ℕ, ◌+◌, List, [], ◌∷◌, map, pos}
+use Rattle.std.specs.List.{range_with_len}
+use Rattle.ps_store.specs.declared.obj.Obj.{Obj}
+use Rattle.ps_store.specs.declared.obj.Obj.TheVariants.{Int}
+use Rattle.ps_store.specs.declared.obj.Span.{Span}
+use Rattle.ps_store.specs.Store.{Kept, element, put_at}
+
+-- the elements of an array, or the bytes of a string as integers
+abbrev pub elements : Kept → Span → List Obj
+elements s span = map (element s span) (range_with_len 0 span.len)
+
+-- the store with these objects at the places of an array or a string from one on
+unfoldable pub with_elements : Kept → Span → ℕ → List Obj → Kept
+with_elements s span at [] = s
+with_elements s span at (o ∷ items) = with_elements (put_at s span at o) span (at + 1) items
+
+-- bytes as the integers that stand for them
+abbrev pub integers : List ℕ → List Obj
+integers bytes = map (λ byte. Int (pos byte)) bytes

@@ -1,0 +1,93 @@
+//! Many objects at once, between strings, arrays and the operands.
+ghost use Rattle.std.specs.Prelude.{◌≡◌, ◌≤◌, ◌<◌, ◌+◌, ◌^◌, ◌++◌, length, reverse, take, drop, IfOk, OnOk, OnErr, map, vec_len};
+ghost use Rattle.std.specs.List.{range_with_len};
+ghost use Rattle.ps_store.specs.Store.{element};
+ghost use Rattle.ps_store.specs.Gathering.{elements, with_elements, integers};
+
+use crate::obj::{Obj, Span};
+use crate::stack::Stack;
+use crate::store::Store;
+use press_fault::Mem;
+use press_nums::Whole;
+
+impl Store {
+    /// The elements of an array, or the bytes of a string as integers, in order.
+    pub fn elements(&self, span: Span) -> Mem<Vec<Obj>>
+        ensures value { IfOk result (λ items. items.items ≡ elements self.now span) }
+        ensures len { IfOk result (λ items. vec_len items ≡ span.len) }
+    {
+        let items = (0..span.len)
+            .map(|at| self.get(span, at))
+            .collect(self.alloc)?;
+        Ok(items)
+    }
+
+    /// Puts objects at the places of an array or a string, in order, from `at` on.
+    #[tactic(auto, unfolding(crate::specs::Gathering::with_elements))]
+    pub fn put_all(&mut self, span: Span, at: u32, items: &[Obj])
+        requires { at + length items.now < 2 ^ 32 }
+        ensures { self.new ≡ with_elements self.old span at items.now }
+    {
+        let mut place = at;
+        for item in items {
+            self.put(span, place, *item);
+            place += 1;
+        }
+    }
+
+    /// Puts bytes at the places of a string, in order, from its first one on.
+    #[tactic(auto, unfolding(crate::specs::Gathering::with_elements))]
+    pub fn put_bytes(&mut self, span: Span, bytes: &[u8])
+        requires { length bytes.now < 2 ^ 32 }
+        ensures { self.new ≡ with_elements self.old span 0 (integers bytes.now) }
+    {
+        let mut place = 0;
+        for byte in bytes {
+            self.put(span, place, Obj::Int(Whole::of(i32::from(*byte))));
+            place += 1;
+        }
+    }
+
+    /// Puts the elements of an array, or the bytes of a string, at the places of another from
+    /// `at` on, as they were before the first of them was written.
+    pub fn copy_elements(&mut self, from: Span, to: Span, at: u32) -> Mem<()>
+        requires { at + from.len < 2 ^ 32 }
+        ensures ok { OnOk result (self.new ≡ with_elements self.old to at (elements self.old from)) }
+        ensures err { OnErr result (self.new ≡ self.old) }
+    {
+        let items = self.elements(from)?;
+        self.put_all(to, at, &items);
+        Ok(())
+    }
+
+    /// Puts the operands below the top `below` ones at the places of an array, so many as it
+    /// has, the one pushed last at its last place.
+    #[tactic(auto, unfolding(crate::specs::Gathering::with_elements))]
+    pub fn put_operands(&mut self, span: Span, stack: &Stack, below: usize)
+        requires { below + span.len ≤ length stack.now }
+        ensures { self.new ≡ with_elements self.old span 0 (reverse (take span.len (drop below stack.now))) }
+    {
+        let len = span.len;
+        let _held = stack.len();
+        for at in 0..len {
+            let above = below + (len - 1 - at) as usize;
+            let Some(item) = stack.at(above) else {
+                unreachable!();
+            };
+            self.put(span, at, *item);
+        }
+    }
+}
+
+impl Stack {
+    /// Pushes the elements of an array, in order. The caller asks for the room.
+    #[tactic(auto, using(crate::proofs::Gathered::pushed_more))]
+    pub fn push_elements(&mut self, store: &Store, span: Span)
+        requires { length self.old + span.len ≤ 500 }
+        ensures { self.new ≡ reverse (elements store.now span) ++ self.old }
+    {
+        for at in 0..span.len {
+            let _ = self.push(store.get(span, at));
+        }
+    }
+}
