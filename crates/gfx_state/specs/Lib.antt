@@ -1,0 +1,4 @@
+pub mod Colour
+pub mod Points
+pub mod Sheets
+pub mod Graphics

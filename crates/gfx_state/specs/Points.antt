@@ -1,0 +1,19 @@
+-- How many points the marks of a page have. Own rule: the limit of a page speaks of these.
+use Rattle.std.specs.Prelude.{ℕ, List, length, sum_by}
+use Rattle.press_fault.specs.Plane.{Spot}
+use Rattle.page_model.specs.Marking.{Marking}
+use Rattle.page_model.specs.declared.shape.Shape.{Shape}
+use Rattle.page_model.specs.declared.shape.Shape.TheVariants.{Poly, Disc}
+
+-- the points of rings
+abbrev pub ring_points : List (List Spot) → ℕ
+ring_points rings = sum_by length rings
+
+-- the points of a shape; a disc counts as one
+abbrev pub shape_points : Shape → ℕ
+shape_points (Poly rings) = ring_points rings
+shape_points (Disc disc) = 1
+
+-- the points of all shapes of all marks
+abbrev pub mark_points : List Marking → ℕ
+mark_points marks = sum_by (λ mark. sum_by shape_points mark.shapes) marks

@@ -1,0 +1,222 @@
+//! The graphics state with its saved copies, and the page that is painted.
+ghost use Rattle.std.specs.Prelude.{◌≡◌, ◌≤◌, ◌↔◌, ℕ, length, Some, None, OnOk, OnErr, IfOk, IsErrOf};
+ghost use Rattle.gfx_state.specs.Graphics.{opening, default_matrix, saved_state, restored, with_initial, erased, with_space, with_colour, painted, initial_state, mark_of, page_of};
+ghost use Rattle.gfx_state.specs.Sheets.{IsSheet};
+ghost use Rattle.gfx_state.specs.Colour.{channels_of, gray_of};
+
+use crate::colour::{Space, codes, gray};
+use crate::points::points_up_to;
+use crate::state::{SAVED, Saved, State};
+use geo_matrix::Matrix;
+use page_model::{Clip, Ink, Mark, Marks, Page, Paint, Rings, Rule, Shape, Shapes};
+use press_fault::{Code, Grow, Mem};
+use press_nums::{Fix, Wide, fix_small};
+use std::alloc::Global;
+use std::marker::Model;
+use std::mem;
+use std::sync::Arc;
+
+/// The graphics state, its saved copies, and the marks of the page so far.
+#[derive(Drop)]
+pub struct Gfx {
+    alloc: Global,
+    width: u32,
+    height: u32,
+    res: u32,
+    state: State,
+    saved: Saved,
+    marks: Marks,
+    points: u64,
+}
+
+impl Model for Gfx {
+    ghost use Rattle.gfx_state.specs.Graphics.{Graphics};
+    ghost use Rattle.gfx_state.specs.Sheets.{IsKept};
+
+    ghost Value = { Graphics };
+
+    ghost view = { λ g. record {
+      sheet = record { width = g.width; height = g.height; res = g.res };
+      state = g.state;
+      saved = g.saved;
+      marks = g.marks;
+    } };
+
+    ghost invariant = { λ g. IsKept g.width g.height g.res g.marks g.points };
+}
+
+impl Gfx {
+    /// The graphics state at the start of a program, over a blank page.
+    pub fn new(alloc: Global, width: u32, height: u32, res: u32) -> Mem<Gfx>
+        requires { IsSheet width height res }
+        ensures { IfOk result (λ gfx. gfx ≡ opening (record { width = width; height = height; res = res })) }
+    {
+        let state = initial(alloc, height, res)?;
+        Ok(Gfx {
+            alloc,
+            width,
+            height,
+            res,
+            state,
+            saved: Saved::new(alloc),
+            marks: Marks::new(alloc),
+            points: 0,
+        })
+    }
+
+    /// Sets what `initgraphics` sets. The saved states stay.
+    pub fn initial(&mut self) -> Mem<()>
+        ensures ok { OnOk result (self.new ≡ with_initial self.old) }
+        ensures err { OnErr result (self.new ≡ self.old) }
+    {
+        self.state = initial(self.alloc, self.height, self.res)?;
+        Ok(())
+    }
+
+    /// Drops the marks of the page.
+    pub fn erase(&mut self)
+        ensures { self.new ≡ erased self.old }
+    {
+        self.marks = Marks::new(self.alloc);
+        self.points = 0;
+    }
+
+    /// Sets the colour space, and its first colour.
+    pub fn set_space(&mut self, space: Space)
+        ensures { self.new ≡ with_space self.old space }
+    {
+        self.state.space = space;
+        self.state.code = space.first_colour();
+    }
+
+    /// The colour space.
+    pub fn space(&self) -> Space
+        ensures { result ≡ self.now.state.space }
+    {
+        self.state.space
+    }
+
+    /// Sets the colour: a number for each component of the space.
+    pub fn set_color(&mut self, values: &[Fix])
+        requires { length values.now ≡ channels_of self.old.state.space }
+        ensures { self.new ≡ with_colour self.old values.now }
+    {
+        self.state.code = codes(values);
+    }
+
+    /// The gray of the current colour.
+    pub fn gray(&self) -> Fix
+        ensures { result ≡ gray_of self.now.state.space self.now.state.code.c }
+    {
+        gray(self.state.space, self.state.code)
+    }
+
+    /// The current transformation matrix.
+    pub fn matrix(&self) -> Matrix
+        ensures { result ≡ self.now.state.matrix }
+    {
+        self.state.matrix
+    }
+
+    /// Saves a copy of the current state, refused exactly where 32 are saved.
+    pub fn save(&mut self) -> Result<(), Grow>
+        ensures ok { OnOk result (saved_state self.old ≡ Some self.new) }
+        ensures limit { IsErrOf result Grow.LimitCheck ↔ (saved_state self.old ≡ None) }
+        ensures err { OnErr result (self.new ≡ self.old) }
+    {
+        if self.saved.len() >= SAVED {
+            return Err(Grow::LimitCheck);
+        }
+        let copy = self.state.copy()?;
+        self.saved.push(copy)?;
+        Ok(())
+    }
+
+    /// Goes back to the state saved last; nothing where none is saved.
+    pub fn restore(&mut self)
+        ensures { self.new ≡ restored self.old }
+    {
+        if let Some(state) = self.saved.pop() {
+            self.state = state;
+        }
+    }
+
+    /// Adds a mark of rings in the current colour, refused exactly where the page has no room for it.
+    pub fn mark_rings(&mut self, rule: Rule, rings: Rings) -> Result<(), Grow>
+        ensures ok { OnOk result (painted self.old rule rings ≡ Some self.new) }
+        ensures limit { IsErrOf result Grow.LimitCheck ↔ (painted self.old rule rings ≡ None) }
+        ensures err { OnErr result (self.new ≡ self.old) }
+    {
+        if self.marks.items().len() >= 1_000_000 {
+            return Err(Grow::LimitCheck);
+        }
+        let Some(more) = points_up_to(&rings, 4_194_304 - self.points) else {
+            return Err(Grow::LimitCheck);
+        };
+        let mark = flat_mark(self.alloc, rule, rings, &self.state)?;
+        self.marks.push(mark)?;
+        self.points += more;
+        Ok(())
+    }
+
+    /// The page that was painted. The marks go with it.
+    pub fn take_page(&mut self) -> Page
+        ensures page { result ≡ page_of self.old }
+        ensures rest { self.new ≡ erased self.old }
+    {
+        let marks = mem::replace(&mut self.marks, Marks::new(self.alloc));
+        self.points = 0;
+        Page {
+            width: self.width,
+            height: self.height,
+            sources: 0,
+            marks,
+        }
+    }
+}
+
+/// What `initgraphics` sets.
+fn initial(alloc: Global, height: u32, res: u32) -> Mem<State>
+    requires height { height ≤ 16384 }
+    requires res { res ≤ 2400 }
+    ensures { IfOk result (λ state. (width : ℕ) → state ≡ initial_state (record { width = width; height = height; res = res })) }
+{
+    Ok(State {
+        matrix: default(height, res),
+        space: Space::Gray,
+        code: Space::Gray.first_colour(),
+        clip: Arc::new(alloc, Clip::new(alloc))?,
+    })
+}
+
+/// The default matrix of a page.
+#[tactic(auto, unfolding(crate::specs::Graphics::default_matrix))]
+fn default(height: u32, res: u32) -> Matrix
+    requires height { height ≤ 16384 }
+    requires res { res ≤ 2400 }
+    ensures { (width : ℕ) → result ≡ default_matrix (record { width = width; height = height; res = res }) }
+{
+    let scale = Wide::of(i64::from(res) * 65536).div_round(Wide::of(72));
+    Matrix {
+        a: fix_small(scale),
+        b: Fix::of_int(0),
+        c: Fix::of_int(0),
+        d: fix_small(scale.negated()),
+        tx: Fix::of_int(0),
+        ty: fix_small(Wide::of(i64::from(height) * 65536)),
+    }
+}
+
+/// A mark of rings in a state's colour, cut by its clip.
+fn flat_mark(alloc: Global, rule: Rule, rings: Rings, state: &State) -> Mem<Mark>
+    ensures { IfOk result (λ mark. mark ≡ mark_of state.now rule rings) }
+{
+    let mut shapes = Shapes::new(alloc);
+    shapes.push(Shape::Poly(rings))?;
+    Ok(Mark {
+        rule,
+        shapes,
+        clip: Arc::try_clone(&state.clip)?,
+        paint: Paint::Flat(Ink::Plain(state.code)),
+    })
+}

@@ -1,0 +1,13 @@
+//! The graphics state: matrix, colour, clip, saved copies, and the marks of the page.
+//!
+//! Proved against `specs/Graphics.antt` and `specs/Colour.antt` (PostScript Language Reference, third
+//! edition, 4.2 Graphics State). Start with `gfx.rt`. Coordinates are sub-dots, 1/256 of a dot.
+#![tactic(auto)]
+
+mod colour;
+mod gfx;
+mod points;
+mod state;
+
+pub use colour::Space;
+pub use gfx::Gfx;
