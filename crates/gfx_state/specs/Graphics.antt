@@ -1,6 +1,6 @@
 -- The graphics state, its saved copies, and the page that is painted
 -- (PostScript Language Reference, third edition, 4.2 Graphics State and 8.2 Graphics State Operators).
-use Rattle.std.specs.Prelude.{ℕ, ℤ, pos, neg_ℤ, ◌+◌, ◌*◌, ◌&&◌, List, [], ◌∷◌, ◌++◌, length, Option, Some, None, nat_lt, nat_le, Bool, if◌then◌else◌}
+use Rattle.std.specs.Prelude.{ℕ, ℤ, pos, neg_ℤ, ◌+◌, ◌*◌, ◌&&◌, List, [], ◌∷◌, ◌++◌, length, reverse, take, slice_get, Option, Some, None, nat_lt, nat_le, Bool, if◌then◌else◌}
 use Rattle.press_nums.specs.Rounding.{div_round}
 use Rattle.press_fault.specs.Plane.{Spot, Channels}
 use Rattle.geo_matrix.specs.Affine.{Affine}
@@ -93,14 +93,21 @@ back_to g (state ∷ saved) = record { sheet = g.sheet; state = state; saved = s
 abbrev pub restored : Graphics → Graphics
 restored g = back_to g g.saved
 
+-- the state saved first, which is the last of the list
+abbrev pub first_saved : List GraphicsState → Option GraphicsState
+first_saved saved = slice_get (reverse saved) 0
+
+-- that state alone
+abbrev pub only_first : List GraphicsState → List GraphicsState
+only_first saved = take 1 (reverse saved)
+
 -- back to the state saved first, which stays as the only one saved; nothing where none is saved
-abbrev pub back_to_first : Graphics → List GraphicsState → Graphics
-back_to_first g [] = g
-back_to_first g (state ∷ []) = record { sheet = g.sheet; state = state; saved = state ∷ []; marks = g.marks }
-back_to_first g (state ∷ saved) = back_to_first g saved
+abbrev pub back_to_first : Graphics → Option GraphicsState → Graphics
+back_to_first g None = g
+back_to_first g (Some state) = record { sheet = g.sheet; state = state; saved = only_first g.saved; marks = g.marks }
 
 abbrev pub all_restored : Graphics → Graphics
-all_restored g = back_to_first g g.saved
+all_restored g = back_to_first g (first_saved g.saved)
 
 -- a mark of rings in the current colour, cut by the current clip
 abbrev pub mark_of : GraphicsState → Rule → List (List Spot) → Marking

@@ -1,6 +1,7 @@
 //! The graphics state with its saved copies, and the page that is painted.
-ghost use Rattle.std.specs.Prelude.{◌≡◌, ◌≤◌, ◌↔◌, ℕ, length, Some, None, OnOk, OnErr, IfOk, IsErrOf};
-ghost use Rattle.gfx_state.specs.Graphics.{opening, default_matrix, saved_state, restored, with_initial, erased, with_space, with_colour, painted, initial_state, mark_of, page_of};
+ghost use Rattle.std.specs.Prelude.{◌≡◌, ◌≤◌, ◌↔◌, ℕ, length, Some, None, OnOk, OnErr, IfOk, IsErrOf, []};
+ghost use Rattle.std.specs.Arc.{arc_value};
+ghost use Rattle.gfx_state.specs.Graphics.{opening, default_matrix, saved_state, restored, with_initial, all_restored, erased, with_space, with_colour, painted, initial_state, mark_of, page_of};
 ghost use Rattle.gfx_state.specs.Sheets.{IsSheet};
 ghost use Rattle.gfx_state.specs.Colour.{channels_of, gray_of};
 
@@ -23,6 +24,7 @@ pub struct Gfx {
     width: u32,
     height: u32,
     res: u32,
+    no_clip: Arc<Clip>,
     state: State,
     saved: Saved,
     marks: Marks,
@@ -31,6 +33,7 @@ pub struct Gfx {
 
 impl Model for Gfx {
     ghost use Rattle.gfx_state.specs.Graphics.{Graphics};
+    ghost use Rattle.std.specs.Prelude.{◌≡◌, []};
     ghost use Rattle.gfx_state.specs.Sheets.{IsKept};
 
     ghost Value = { Graphics };
@@ -42,7 +45,7 @@ impl Model for Gfx {
       marks = g.marks;
     } };
 
-    ghost invariant = { λ g. IsKept g.width g.height g.res g.marks g.points };
+    ghost invariant = { λ g. IsKept g.width g.height g.res g.marks g.points × (g.no_clip.value ≡ []) };
 }
 
 impl Gfx {
@@ -51,13 +54,14 @@ impl Gfx {
         requires { IsSheet width height res }
         ensures { IfOk result (λ gfx. gfx ≡ opening (record { width = width; height = height; res = res })) }
     {
-        let state = initial(alloc, height, res)?;
+        let no_clip = Arc::new(alloc, Clip::new(alloc))?;
         Ok(Gfx {
             alloc,
             width,
             height,
             res,
-            state,
+            no_clip,
+            state: initial(height, res),
             saved: Saved::new(alloc),
             marks: Marks::new(alloc),
             points: 0,
@@ -65,12 +69,10 @@ impl Gfx {
     }
 
     /// Sets what `initgraphics` sets. The saved states stay.
-    pub fn initial(&mut self) -> Mem<()>
-        ensures ok { OnOk result (self.new ≡ with_initial self.old) }
-        ensures err { OnErr result (self.new ≡ self.old) }
+    pub fn initial(&mut self)
+        ensures { self.new ≡ with_initial self.old }
     {
-        self.state = initial(self.alloc, self.height, self.res)?;
-        Ok(())
+        self.state = initial(self.height, self.res);
     }
 
     /// Drops the marks of the page.
@@ -141,6 +143,18 @@ impl Gfx {
         }
     }
 
+    /// Goes back to the state saved first, which stays as the only one saved; nothing where none is saved.
+    pub fn restore_all(&mut self) -> Mem<()>
+        ensures ok { OnOk result (self.new ≡ all_restored self.old) }
+        ensures err { OnErr result (self.new ≡ self.old) }
+    {
+        if let Some(state) = self.saved.first()? {
+            self.saved.keep_first();
+            self.state = state;
+        }
+        Ok(())
+    }
+
     /// Adds a mark of rings in the current colour, refused exactly where the page has no room for it.
     pub fn mark_rings(&mut self, rule: Rule, rings: Rings) -> Result<(), Grow>
         ensures ok { OnOk result (painted self.old rule rings ≡ Some self.new) }
@@ -153,7 +167,7 @@ impl Gfx {
         let Some(more) = points_up_to(&rings, 4_194_304 - self.points) else {
             return Err(Grow::LimitCheck);
         };
-        let mark = flat_mark(self.alloc, rule, rings, &self.state)?;
+        let mark = flat_mark(self.alloc, rule, rings, &self.state, &self.no_clip)?;
         self.marks.push(mark)?;
         self.points += more;
         Ok(())
@@ -176,17 +190,17 @@ impl Gfx {
 }
 
 /// What `initgraphics` sets.
-fn initial(alloc: Global, height: u32, res: u32) -> Mem<State>
+fn initial(height: u32, res: u32) -> State
     requires height { height ≤ 16384 }
     requires res { res ≤ 2400 }
-    ensures { IfOk result (λ state. (width : ℕ) → state ≡ initial_state (record { width = width; height = height; res = res })) }
+    ensures { (width : ℕ) → result ≡ initial_state (record { width = width; height = height; res = res }) }
 {
-    Ok(State {
+    State {
         matrix: default(height, res),
         space: Space::Gray,
         code: Space::Gray.first_colour(),
-        clip: Arc::new(alloc, Clip::new(alloc))?,
-    })
+        clip: None,
+    }
 }
 
 /// The default matrix of a page.
@@ -208,7 +222,14 @@ fn default(height: u32, res: u32) -> Matrix
 }
 
 /// A mark of rings in a state's colour, cut by its clip.
-fn flat_mark(alloc: Global, rule: Rule, rings: Rings, state: &State) -> Mem<Mark>
+fn flat_mark(
+    alloc: Global,
+    rule: Rule,
+    rings: Rings,
+    state: &State,
+    no_clip: &Arc<Clip>,
+) -> Mem<Mark>
+    requires { arc_value no_clip.now ≡ [] }
     ensures { IfOk result (λ mark. mark ≡ mark_of state.now rule rings) }
 {
     let mut shapes = Shapes::new(alloc);
@@ -216,7 +237,7 @@ fn flat_mark(alloc: Global, rule: Rule, rings: Rings, state: &State) -> Mem<Mark
     Ok(Mark {
         rule,
         shapes,
-        clip: Arc::try_clone(&state.clip)?,
+        clip: state.clip_or(no_clip)?,
         paint: Paint::Flat(Ink::Plain(state.code)),
     })
 }

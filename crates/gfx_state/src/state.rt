@@ -1,5 +1,8 @@
 //! One graphics state.
 ghost use Rattle.std.specs.Prelude.{◌≡◌, ◌∷◌, [], IfOk, OnOk, OnErr, MatchOption, length};
+ghost use Rattle.std.specs.Arc.{arc_value};
+ghost use Rattle.gfx_state.specs.Clipped.{regions_of};
+ghost use Rattle.gfx_state.specs.Graphics.{first_saved, only_first};
 
 use crate::colour::Space;
 use geo_matrix::Matrix;
@@ -15,15 +18,17 @@ pub(crate) struct State {
     pub(crate) matrix: Matrix,
     pub(crate) space: Space,
     pub(crate) code: Code,
-    pub(crate) clip: Arc<Clip>,
+    /// `None` where the clip has no regions, so that setting it takes no memory.
+    pub(crate) clip: Option<Arc<Clip>>,
 }
 
 impl Model for State {
     ghost use Rattle.gfx_state.specs.Graphics.{GraphicsState};
+    ghost use Rattle.gfx_state.specs.Clipped.{regions_of};
 
     ghost Value = { GraphicsState };
 
-    ghost view = { λ s. record { matrix = s.matrix; space = s.space; code = s.code; clip = s.clip.value } };
+    ghost view = { λ s. record { matrix = s.matrix; space = s.space; code = s.code; clip = regions_of s.clip } };
 }
 
 impl State {
@@ -34,8 +39,29 @@ impl State {
             matrix: self.matrix,
             space: self.space,
             code: self.code,
-            clip: Arc::try_clone(&self.clip)?,
+            clip: shared(&self.clip)?,
         })
+    }
+
+    /// Another owner of the clip, or of one without regions where there are none.
+    pub(crate) fn clip_or(&self, no_clip: &Arc<Clip>) -> Mem<Arc<Clip>>
+        requires { arc_value no_clip.now ≡ [] }
+        ensures { IfOk result (λ clip. arc_value clip ≡ self.now.clip) }
+    {
+        match &self.clip {
+            Some(clip) => Ok(Arc::try_clone(clip)?),
+            None => Ok(Arc::try_clone(no_clip)?),
+        }
+    }
+}
+
+/// Another owner of a clip.
+fn shared(clip: &Option<Arc<Clip>>) -> Mem<Option<Arc<Clip>>>
+    ensures { IfOk result (λ copy. regions_of copy ≡ regions_of clip.now) }
+{
+    match clip {
+        Some(clip) => Ok(Some(Arc::try_clone(clip)?)),
+        None => Ok(None),
     }
 }
 
@@ -84,5 +110,22 @@ impl Saved {
         ensures popped { MatchOption result ((self.old ≡ []) × (self.new ≡ [])) (λ state. self.old ≡ state ∷ self.new) }
     {
         self.states.pop()
+    }
+
+    /// A copy of the state saved first.
+    pub(crate) fn first(&self) -> Mem<Option<State>>
+        ensures { IfOk result (λ first. first ≡ first_saved self.now) }
+    {
+        match self.states.first() {
+            Some(state) => Ok(Some(state.copy()?)),
+            None => Ok(None),
+        }
+    }
+
+    /// Keeps the state saved first alone.
+    pub(crate) fn keep_first(&mut self)
+        ensures { self.new ≡ only_first self.old }
+    {
+        self.states.truncate(1);
     }
 }

@@ -1,0 +1,15 @@
+-- The state saved first, of states that are kept in the order in which they were saved.
+use Rattle.std.proofs.Common.{◌≡◌, ◌∙◌, ap, sym, refl, List, [], ◌∷◌, take, reverse, Option, slice_get}
+use Rattle.std.proofs.lemmas.List.{reverse-reverse}
+use Rattle.gfx_state.specs.Graphics.{GraphicsState, first_saved, only_first}
+
+one : (xs : List GraphicsState) → reverse (take 1 xs) ≡ take 1 xs
+one [] = refl
+one (x ∷ xs) = refl
+
+pub kept_first : (states left saved : List GraphicsState) → reverse states ≡ saved → left ≡ take 1 states → reverse left ≡ only_first saved
+kept_first states left saved view is =
+    ap reverse is ∙ (one states ∙ (ap (take 1) (sym (reverse-reverse states)) ∙ ap (λ xs. take 1 (reverse xs)) view))
+
+pub first_of : (states saved : List GraphicsState) → reverse states ≡ saved → slice_get states 0 ≡ first_saved saved
+first_of states saved view = ap (λ xs. slice_get xs 0) (sym (reverse-reverse states)) ∙ ap first_saved view

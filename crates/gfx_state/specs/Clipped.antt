@@ -1,0 +1,9 @@
+-- The regions of a clip, where it has any.
+use Rattle.std.specs.Prelude.{List, [], Option, Some, None}
+use Rattle.std.specs.declared.sync.Arc.{Arc}
+use Rattle.std.specs.declared.alloc.Global.{Global}
+use Rattle.page_model.specs.declared.shape.Region.{Region}
+
+abbrev pub regions_of : Option (Arc (List Region) Global) → List Region
+regions_of None = []
+regions_of (Some clip) = clip.value
