@@ -4,20 +4,19 @@ use Rattle.std.specs.Prelude.{ℕ, ℤ, pos, neg_ℤ, ◌+◌, ◌*◌, ◌&&◌
 use Rattle.press_nums.specs.Rounding.{div_round}
 use Rattle.press_fault.specs.Plane.{Spot, Channels}
 use Rattle.geo_matrix.specs.Affine.{Affine}
-use Rattle.page_model.specs.Marking.{Marking}
+use Rattle.page_model.specs.Marking.{Marking, Flatly}
+use Rattle.page_model.specs.Page.{Sheet}
 use Rattle.page_model.specs.declared.shape.Rule.{Rule}
 use Rattle.page_model.specs.declared.shape.Region.{Region}
 use Rattle.page_model.specs.declared.shape.Shape.TheVariants.{Poly}
 use Rattle.page_model.specs.declared.mark.Ink.TheVariants.{Plain}
-use Rattle.page_model.specs.declared.mark.Paint.TheVariants.{Flat}
-use Rattle.page_model.specs.declared.mark.Page.{Page}
 use Rattle.gfx_state.specs.declared.colour.Space.{Space}
 use Rattle.gfx_state.specs.declared.colour.Space.TheVariants.{Gray}
 use Rattle.gfx_state.specs.Colour.{codes_of, first_colour}
 use Rattle.gfx_state.specs.Points.{ring_points, mark_points}
 
 -- a page's size in dots, and the dots of an inch
-pub record Sheet : Type 0 where
+pub record PageSize : Type 0 where
   pub width : ℕ
   pub height : ℕ
   pub res : ℕ
@@ -31,7 +30,7 @@ pub record GraphicsState : Type 0 where
 
 -- the page's size, the current state, its saved copies (the last one saved first), and the marks of the page so far
 pub record Graphics : Type 0 where
-  pub sheet : Sheet
+  pub size : PageSize
   pub state : GraphicsState
   pub saved : List GraphicsState
   pub marks : List Marking
@@ -41,34 +40,34 @@ abbrev pub dots_per_point : ℕ → ℤ
 dots_per_point res = div_round (pos (res * 65536)) (pos 72)
 
 -- the default matrix: the origin at the lower left corner of the page, and y up
-unfoldable pub default_matrix : Sheet → Affine
-default_matrix sheet = record {
-  a = dots_per_point sheet.res;
+unfoldable pub default_matrix : PageSize → Affine
+default_matrix size = record {
+  a = dots_per_point size.res;
   b = pos 0;
   c = pos 0;
-  d = neg_ℤ (dots_per_point sheet.res);
+  d = neg_ℤ (dots_per_point size.res);
   tx = pos 0;
-  ty = pos (sheet.height * 65536);
+  ty = pos (size.height * 65536);
 }
 
 -- what initgraphics sets
-abbrev pub initial_state : Sheet → GraphicsState
-initial_state sheet = record { matrix = default_matrix sheet; space = Gray; code = first_colour Gray; clip = [] }
+abbrev pub initial_state : PageSize → GraphicsState
+initial_state size = record { matrix = default_matrix size; space = Gray; code = first_colour Gray; clip = [] }
 
 -- a blank page, as a program finds it
-abbrev pub opening : Sheet → Graphics
-opening sheet = record { sheet = sheet; state = initial_state sheet; saved = []; marks = [] }
+abbrev pub opening : PageSize → Graphics
+opening size = record { size = size; state = initial_state size; saved = []; marks = [] }
 
 -- with another current state
 abbrev pub with_state : Graphics → GraphicsState → Graphics
-with_state g state = record { sheet = g.sheet; state = state; saved = g.saved; marks = g.marks }
+with_state g state = record { size = g.size; state = state; saved = g.saved; marks = g.marks }
 
 abbrev pub with_initial : Graphics → Graphics
-with_initial g = with_state g (initial_state g.sheet)
+with_initial g = with_state g (initial_state g.size)
 
 -- the page without its marks
 abbrev pub erased : Graphics → Graphics
-erased g = record { sheet = g.sheet; state = g.state; saved = g.saved; marks = [] }
+erased g = record { size = g.size; state = g.state; saved = g.saved; marks = [] }
 
 -- with another colour space, and its first colour
 abbrev pub with_space : Graphics → Space → Graphics
@@ -82,13 +81,13 @@ with_colour g values = with_state g (record { matrix = g.state.matrix; space = g
 abbrev pub saved_state : Graphics → Option Graphics
 saved_state g =
     if nat_lt (length g.saved) 32
-    then Some (record { sheet = g.sheet; state = g.state; saved = g.state ∷ g.saved; marks = g.marks })
+    then Some (record { size = g.size; state = g.state; saved = g.state ∷ g.saved; marks = g.marks })
     else None
 
 -- back to the state saved last, which isn't saved any more; nothing where none is saved
 abbrev pub back_to : Graphics → List GraphicsState → Graphics
 back_to g [] = g
-back_to g (state ∷ saved) = record { sheet = g.sheet; state = state; saved = saved; marks = g.marks }
+back_to g (state ∷ saved) = record { size = g.size; state = state; saved = saved; marks = g.marks }
 
 abbrev pub restored : Graphics → Graphics
 restored g = back_to g g.saved
@@ -104,14 +103,14 @@ only_first saved = take 1 (reverse saved)
 -- back to the state saved first, which stays as the only one saved; nothing where none is saved
 abbrev pub back_to_first : Graphics → Option GraphicsState → Graphics
 back_to_first g None = g
-back_to_first g (Some state) = record { sheet = g.sheet; state = state; saved = only_first g.saved; marks = g.marks }
+back_to_first g (Some state) = record { size = g.size; state = state; saved = only_first g.saved; marks = g.marks }
 
 abbrev pub all_restored : Graphics → Graphics
 all_restored g = back_to_first g (first_saved g.saved)
 
 -- a mark of rings in the current colour, cut by the current clip
 abbrev pub mark_of : GraphicsState → Rule → List (List Spot) → Marking
-mark_of state rule rings = record { rule = rule; shapes = Poly rings ∷ []; clip = state.clip; paint = Flat (Plain state.code) }
+mark_of state rule rings = record { rule = rule; shapes = Poly rings ∷ []; clip = state.clip; paint = Flatly (Plain state.code) }
 
 -- whether a page has room for one more mark of so many points
 abbrev pub has_room : Graphics → ℕ → Bool
@@ -121,9 +120,9 @@ has_room g points = nat_lt (length g.marks) 1000000 && nat_le (mark_points g.mar
 abbrev pub painted : Graphics → Rule → List (List Spot) → Option Graphics
 painted g rule rings =
     if has_room g (ring_points rings)
-    then Some (record { sheet = g.sheet; state = g.state; saved = g.saved; marks = g.marks ++ mark_of g.state rule rings ∷ [] })
+    then Some (record { size = g.size; state = g.state; saved = g.saved; marks = g.marks ++ mark_of g.state rule rings ∷ [] })
     else None
 
 -- the page as it is given
-abbrev pub page_of : Graphics → Page
-page_of g = record { width = g.sheet.width; height = g.sheet.height; sources = 0; marks = g.marks }
+abbrev pub page_of : Graphics → Sheet
+page_of g = record { width = g.size.width; height = g.size.height; sources = 0; marks = g.marks }

@@ -1,5 +1,5 @@
 pub mod Colour
 pub mod Clipped
 pub mod Points
-pub mod Sheets
+pub mod Keeping
 pub mod Graphics

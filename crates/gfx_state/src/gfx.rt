@@ -2,7 +2,7 @@
 ghost use Rattle.std.specs.Prelude.{◌≡◌, ◌≤◌, ◌↔◌, ℕ, length, Some, None, OnOk, OnErr, IfOk, IsErrOf, []};
 ghost use Rattle.std.specs.Arc.{arc_value};
 ghost use Rattle.gfx_state.specs.Graphics.{opening, default_matrix, saved_state, restored, with_initial, all_restored, erased, with_space, with_colour, painted, initial_state, mark_of, page_of};
-ghost use Rattle.gfx_state.specs.Sheets.{IsSheet};
+ghost use Rattle.gfx_state.specs.Keeping.{IsPageSize};
 ghost use Rattle.gfx_state.specs.Colour.{channels_of, gray_of};
 
 use crate::colour::{Space, codes, gray};
@@ -34,12 +34,12 @@ pub struct Gfx {
 impl Model for Gfx {
     ghost use Rattle.gfx_state.specs.Graphics.{Graphics};
     ghost use Rattle.std.specs.Prelude.{◌≡◌, []};
-    ghost use Rattle.gfx_state.specs.Sheets.{IsKept};
+    ghost use Rattle.gfx_state.specs.Keeping.{IsKept};
 
     ghost Value = { Graphics };
 
     ghost view = { λ g. record {
-      sheet = record { width = g.width; height = g.height; res = g.res };
+      size = record { width = g.width; height = g.height; res = g.res };
       state = g.state;
       saved = g.saved;
       marks = g.marks;
@@ -51,7 +51,7 @@ impl Model for Gfx {
 impl Gfx {
     /// The graphics state at the start of a program, over a blank page.
     pub fn new(alloc: Global, width: u32, height: u32, res: u32) -> Mem<Gfx>
-        requires { IsSheet width height res }
+        requires { IsPageSize width height res }
         ensures { IfOk result (λ gfx. gfx ≡ opening (record { width = width; height = height; res = res })) }
     {
         let no_clip = Arc::new(alloc, Clip::new(alloc))?;
