@@ -6,13 +6,15 @@ use Rattle.std.specs.Prelude.{ℕ, List, [], ◌∷◌, codes}
 use Rattle.ps_store.specs.declared.oper.StackOp.{StackOp}
 use Rattle.ps_store.specs.declared.oper.DataOp.{DataOp}
 use Rattle.ps_store.specs.declared.oper.FlowOp.{FlowOp}
+use Rattle.ps_store.specs.declared.oper.GfxOp.{GfxOp}
 use Rattle.ps_store.specs.declared.oper.PageOp.{PageOp}
 use Rattle.ps_store.specs.declared.oper.StackOp.TheVariants as OnStack
 use Rattle.ps_store.specs.declared.oper.DataOp.TheVariants as OnData
 use Rattle.ps_store.specs.declared.oper.FlowOp.TheVariants as OnFlow
+use Rattle.ps_store.specs.declared.oper.GfxOp.TheVariants as OnGfx
 use Rattle.ps_store.specs.declared.oper.PageOp.TheVariants as OnPage
 use Rattle.ps_store.specs.declared.oper.Oper.{Oper}
-use Rattle.ps_store.specs.declared.oper.Oper.TheVariants.{Stack, Data, Flow, Page}
+use Rattle.ps_store.specs.declared.oper.Oper.TheVariants.{Stack, Data, Flow, Gfx, Page}
 
 abbrev pub stack_number_of : StackOp → ℕ
 stack_number_of OnStack.Pop = 0
@@ -104,21 +106,24 @@ flow_number_of OnFlow.Stop = 78
 flow_number_of OnFlow.Stopped = 79
 flow_number_of OnFlow.Bind = 81
 
+abbrev pub gfx_number_of : GfxOp → ℕ
+gfx_number_of OnGfx.Currentgray = 95
+gfx_number_of OnGfx.Setgray = 96
+gfx_number_of OnGfx.Setrgbcolor = 97
+gfx_number_of OnGfx.Setcmykcolor = 98
+gfx_number_of OnGfx.Rectfill = 128
+gfx_number_of OnGfx.Erasepage = 135
+
 abbrev pub page_number_of : PageOp → ℕ
 page_number_of OnPage.Quit = 80
-page_number_of OnPage.Currentgray = 95
-page_number_of OnPage.Setgray = 96
-page_number_of OnPage.Setrgbcolor = 97
-page_number_of OnPage.Setcmykcolor = 98
-page_number_of OnPage.Rectfill = 128
 page_number_of OnPage.Showpage = 134
-page_number_of OnPage.Erasepage = 135
 
 -- an operator's place in the table
 abbrev pub number_of : Oper → ℕ
 number_of (Stack op) = stack_number_of op
 number_of (Data op) = data_number_of op
 number_of (Flow op) = flow_number_of op
+number_of (Gfx op) = gfx_number_of op
 number_of (Page op) = page_number_of op
 
 abbrev pub stack_name_of : StackOp → List ℕ
@@ -211,21 +216,24 @@ flow_name_of OnFlow.Stop = codes "stop"
 flow_name_of OnFlow.Stopped = codes "stopped"
 flow_name_of OnFlow.Bind = codes "bind"
 
+abbrev pub gfx_name_of : GfxOp → List ℕ
+gfx_name_of OnGfx.Currentgray = codes "currentgray"
+gfx_name_of OnGfx.Setgray = codes "setgray"
+gfx_name_of OnGfx.Setrgbcolor = codes "setrgbcolor"
+gfx_name_of OnGfx.Setcmykcolor = codes "setcmykcolor"
+gfx_name_of OnGfx.Rectfill = codes "rectfill"
+gfx_name_of OnGfx.Erasepage = codes "erasepage"
+
 abbrev pub page_name_of : PageOp → List ℕ
 page_name_of OnPage.Quit = codes "quit"
-page_name_of OnPage.Currentgray = codes "currentgray"
-page_name_of OnPage.Setgray = codes "setgray"
-page_name_of OnPage.Setrgbcolor = codes "setrgbcolor"
-page_name_of OnPage.Setcmykcolor = codes "setcmykcolor"
-page_name_of OnPage.Rectfill = codes "rectfill"
 page_name_of OnPage.Showpage = codes "showpage"
-page_name_of OnPage.Erasepage = codes "erasepage"
 
 -- the name by which a program calls an operator
 abbrev pub name_of : Oper → List ℕ
 name_of (Stack op) = stack_name_of op
 name_of (Data op) = data_name_of op
 name_of (Flow op) = flow_name_of op
+name_of (Gfx op) = gfx_name_of op
 name_of (Page op) = page_name_of op
 
 -- the operators that are built, in the order of their numbers
@@ -251,6 +259,6 @@ operators_built = Stack OnStack.Pop ∷ Stack OnStack.Exch ∷ Stack OnStack.Dup
     Flow OnFlow.If ∷ Flow OnFlow.Ifelse ∷ Flow OnFlow.For ∷ Flow OnFlow.Repeat ∷
     Flow OnFlow.Loop ∷ Flow OnFlow.Forall ∷ Flow OnFlow.Exit ∷ Flow OnFlow.Stop ∷
     Flow OnFlow.Stopped ∷ Page OnPage.Quit ∷ Flow OnFlow.Bind ∷ Data OnData.Currentfile ∷
-    Data OnData.Readstring ∷ Data OnData.Readhexstring ∷ Page OnPage.Currentgray ∷
-    Page OnPage.Setgray ∷ Page OnPage.Setrgbcolor ∷ Page OnPage.Setcmykcolor ∷
-    Page OnPage.Rectfill ∷ Page OnPage.Showpage ∷ Page OnPage.Erasepage ∷ []
+    Data OnData.Readstring ∷ Data OnData.Readhexstring ∷ Gfx OnGfx.Currentgray ∷
+    Gfx OnGfx.Setgray ∷ Gfx OnGfx.Setrgbcolor ∷ Gfx OnGfx.Setcmykcolor ∷
+    Gfx OnGfx.Rectfill ∷ Page OnPage.Showpage ∷ Gfx OnGfx.Erasepage ∷ []

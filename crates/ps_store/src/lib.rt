@@ -24,6 +24,6 @@ pub use fault::OpFault;
 pub use key::{Key, KeyFault};
 pub use numbers::{byte_in, place_in};
 pub use obj::{Obj, Span};
-pub use oper::{DataOp, FlowOp, Oper, PageOp, StackOp};
+pub use oper::{DataOp, FlowOp, GfxOp, Oper, PageOp, StackOp};
 pub use stack::{MAX_OPERANDS, Stack};
 pub use store::{Composite, Store};

@@ -1,6 +1,6 @@
 //! The operators, by the crate that does each, with their numbers and names.
 ghost use Rattle.std.specs.Prelude.{◌≡◌};
-ghost use Rattle.ps_store.specs.Operators.{number_of, name_of, stack_name_of, data_name_of, flow_name_of, page_name_of, operators_built};
+ghost use Rattle.ps_store.specs.Operators.{number_of, name_of, stack_name_of, data_name_of, flow_name_of, gfx_name_of, page_name_of, operators_built};
 
 /// Operators on the operands alone, and `copy`.
 #[derive(Clone, Copy, Debug, PartialEq, Eq)]
@@ -101,17 +101,22 @@ pub enum FlowOp {
     Bind = 81,
 }
 
-/// Operators of graphics and pages, and `quit`.
+/// Operators on the graphics state and the marks of the page.
 #[derive(Clone, Copy, Debug, PartialEq, Eq)]
-pub enum PageOp {
-    Quit = 80,
+pub enum GfxOp {
     Currentgray = 95,
     Setgray = 96,
     Setrgbcolor = 97,
     Setcmykcolor = 98,
     Rectfill = 128,
-    Showpage = 134,
     Erasepage = 135,
+}
+
+/// The operators that end the program or give a page.
+#[derive(Clone, Copy, Debug, PartialEq, Eq)]
+pub enum PageOp {
+    Quit = 80,
+    Showpage = 134,
 }
 
 /// An operator. Its crate is that of its kind.
@@ -120,6 +125,7 @@ pub enum Oper {
     Stack(StackOp),
     Data(DataOp),
     Flow(FlowOp),
+    Gfx(GfxOp),
     Page(PageOp),
 }
 
@@ -210,13 +216,13 @@ const BUILT: [Oper; 92] = [
     Oper::Data(DataOp::Currentfile),
     Oper::Data(DataOp::Readstring),
     Oper::Data(DataOp::Readhexstring),
-    Oper::Page(PageOp::Currentgray),
-    Oper::Page(PageOp::Setgray),
-    Oper::Page(PageOp::Setrgbcolor),
-    Oper::Page(PageOp::Setcmykcolor),
-    Oper::Page(PageOp::Rectfill),
+    Oper::Gfx(GfxOp::Currentgray),
+    Oper::Gfx(GfxOp::Setgray),
+    Oper::Gfx(GfxOp::Setrgbcolor),
+    Oper::Gfx(GfxOp::Setcmykcolor),
+    Oper::Gfx(GfxOp::Rectfill),
     Oper::Page(PageOp::Showpage),
-    Oper::Page(PageOp::Erasepage),
+    Oper::Gfx(GfxOp::Erasepage),
 ];
 
 impl Oper {
@@ -229,6 +235,7 @@ impl Oper {
             Oper::Stack(op) => op as u8,
             Oper::Data(op) => op as u8,
             Oper::Flow(op) => op as u8,
+            Oper::Gfx(op) => op as u8,
             Oper::Page(op) => op as u8,
         }
     }
@@ -241,6 +248,7 @@ impl Oper {
             Oper::Stack(op) => stack_name(op),
             Oper::Data(op) => data_name(op),
             Oper::Flow(op) => flow_name(op),
+            Oper::Gfx(op) => gfx_name(op),
             Oper::Page(op) => page_name(op),
         }
     }
@@ -358,17 +366,24 @@ fn flow_name(op: FlowOp) -> &'static str
     }
 }
 
+fn gfx_name(op: GfxOp) -> &'static str
+    ensures { result.now ≡ gfx_name_of op }
+{
+    match op {
+        GfxOp::Currentgray => "currentgray",
+        GfxOp::Setgray => "setgray",
+        GfxOp::Setrgbcolor => "setrgbcolor",
+        GfxOp::Setcmykcolor => "setcmykcolor",
+        GfxOp::Rectfill => "rectfill",
+        GfxOp::Erasepage => "erasepage",
+    }
+}
+
 fn page_name(op: PageOp) -> &'static str
     ensures { result.now ≡ page_name_of op }
 {
     match op {
         PageOp::Quit => "quit",
-        PageOp::Currentgray => "currentgray",
-        PageOp::Setgray => "setgray",
-        PageOp::Setrgbcolor => "setrgbcolor",
-        PageOp::Setcmykcolor => "setcmykcolor",
-        PageOp::Rectfill => "rectfill",
         PageOp::Showpage => "showpage",
-        PageOp::Erasepage => "erasepage",
     }
 }
