@@ -2,11 +2,10 @@
 -- dictionaries, the top one first. Own rules: number 0 is systemdict and 1 is userdict, which stay at the
 -- bottom; there are at most 20.
 use Rattle.std.specs.Prelude.{ℕ, Bool, List, [], ◌∷◌, Option, Some, None, find}
-use Rattle.std.specs.Option.{is_some}
 use Rattle.ps_store.specs.declared.key.Key.{Key}
 use Rattle.ps_store.specs.declared.obj.Obj.{Obj}
 use Rattle.ps_store.specs.Keys.{same_key}
-use Rattle.ps_store.specs.Store.{Kept, found_by}
+use Rattle.ps_store.specs.Store.{Kept, found_by, has}
 
 abbrev pub or_else : Option Obj → Option Obj → Option Obj
 or_else (Some o) other = Some o
@@ -23,4 +22,4 @@ find_key s dicts key = find_by s dicts (same_key key)
 
 -- the topmost dictionary that has a key
 abbrev pub home_of : Kept → List ℕ → Key → Option ℕ
-home_of s dicts key = find (λ dict. is_some (found_by s dict (same_key key))) dicts
+home_of s dicts key = find (λ dict. has s dict key) dicts

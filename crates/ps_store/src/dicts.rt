@@ -117,6 +117,13 @@ impl Dicts {
     {
         find_from_top(&self.items, store, name)
     }
+
+    /// The topmost dictionary that has a key.
+    pub fn home(&self, store: &Store, key: &Key) -> Option<u32>
+        ensures { result ≡ home_of store.now self.now key.now }
+    {
+        home_in(&self.items, store, key)
+    }
 }
 
 /// The value in the last dictionary of a list that has the key.
@@ -127,6 +134,20 @@ fn find_from_top<'a, Q: Equivalent<Key>>(items: &[u32], store: &'a Store, key: Q
     while let Some((dict, below)) = left.split_last() {
         if let Some(value) = store.look_up_by(*dict, key) {
             return Some(value);
+        }
+        left = below;
+    }
+    None
+}
+
+/// The last dictionary of a list that has the key.
+fn home_in(items: &[u32], store: &Store, key: &Key) -> Option<u32>
+    ensures { result ≡ home_of store.now (reverse items.now) key.now }
+{
+    let mut left = items;
+    while let Some((dict, below)) = left.split_last() {
+        if store.has(*dict, key) {
+            return Some(*dict);
         }
         left = below;
     }

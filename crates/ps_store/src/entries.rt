@@ -1,7 +1,7 @@
 //! The entries of a dictionary.
-ghost use Rattle.std.specs.Prelude.{◌≡◌, ◌≤◌, ◌<◌, [], length, not, OnOk, OnErr, IsNone, slice_get};
+ghost use Rattle.std.specs.Prelude.{◌≡◌, ◌≤◌, ◌<◌, [], length, not, OnOk, OnErr, IfOk, IsNone, slice_get};
 ghost use Rattle.std.specs.Map.{lookup};
-ghost use Rattle.std.specs.Option.{option_copied, option_map};
+ghost use Rattle.std.specs.Option.{option_copied, option_map, is_some};
 ghost use Rattle.std.specs.Map.Iter.{deref_pair};
 ghost use Rattle.indexmap.specs.IndexMap.{insert_entry};
 ghost use Rattle.ps_store.specs.Keys.{same_key};
@@ -64,13 +64,15 @@ impl Entries {
         self.map.get_index(place)
     }
 
-    /// Gives a key a value. One that is there keeps its place and its kind.
-    pub fn define(&mut self, key: Key, value: Obj) -> Mem<()>
+    /// Gives a key a value, and tells whether it is a new key. One that is there keeps its place
+    /// and its kind.
+    pub fn define(&mut self, key: Key, value: Obj) -> Mem<bool>
         requires { IsNone (lookup (same_key key) self.old) → length self.old < 65535 }
         ensures ok { OnOk result (self.new ≡ insert_entry same_key self.old key value) }
+        ensures is_new { IfOk result (λ is_new. is_new ≡ not (is_some (lookup (same_key key) self.old))) }
         ensures err { OnErr result (self.new ≡ self.old) }
     {
-        self.map.insert(key, value)?;
-        Ok(())
+        let before = self.map.insert(key, value)?;
+        Ok(before.is_none())
     }
 }

@@ -3,7 +3,7 @@
 //! A read outside a composite gives null or nothing, and a write outside changes nothing.
 ghost use Rattle.std.specs.Prelude.{◌≡◌, ◌≤◌, ◌<◌, ◌+◌, ◌*◌, ◌^◌, ◌++◌, ◌∷◌, [], ◌↔◌, ℕ, true, false, length, OnOk, OnErr, IfOk, IfSome, IsErrOf, IsTrue, Some, None, replicate, slice_get, slice_index_or};
 ghost use Rattle.std.specs.Option.{option_copied};
-ghost use Rattle.ps_store.specs.Store.{Kept, fits, with_new, with_composite, next_span, with_text, with_text_of, with_array, with_array_of, element, item, operator_of, object_at, object_in, bytes_of, objects_of, put_in, put_at, found, found_by, entries_of, entry_at, as_objects, with_dict, defined, is_new_in, is_full_of, with_entry};
+ghost use Rattle.ps_store.specs.Store.{Kept, fits, with_new, with_composite, next_span, with_text, with_text_of, with_array, with_array_of, element, item, operator_of, object_at, object_in, bytes_of, objects_of, put_in, put_at, found, found_by, has, entries_of, entry_at, as_objects, with_dict, defined, is_new_in, is_full_of, with_entry};
 ghost use Rattle.ps_store.specs.KeyOf.{key_of, name_key};
 
 use crate::composite::{Bytes, Elements};
@@ -156,11 +156,12 @@ impl Store {
         if id >= self.made.len() {
             return Ok(());
         }
-        let is_new = is_missing(&self.made[id], &key);
-        if is_new && (is_full(&self.made[id]) || !self.fits(0, 32)) {
+        // The key is looked up beforehand only where a new one would be refused.
+        let has_room = !is_full(&self.made[id]) && self.fits(0, 32);
+        if !has_room && is_missing(&self.made[id], &key) {
             return Err(Grow::LimitCheck);
         }
-        define_in(&mut self.made[id], key, value)?;
+        let is_new = define_in(&mut self.made[id], key, value)?;
         if is_new {
             self.units += 32;
         }
@@ -257,6 +258,16 @@ impl Store {
         ensures { option_copied result ≡ found self.now dict key.now }
     {
         self.look_up_by(dict, key)
+    }
+
+    /// Whether a dictionary has a key.
+    pub fn has(&self, dict: u32, key: &Key) -> bool
+        ensures { result ≡ has self.now dict key.now }
+    {
+        match self.look_up(dict, key) {
+            Some(_) => true,
+            None => false,
+        }
     }
 
     /// The value of a name in a dictionary.
@@ -376,15 +387,17 @@ fn is_full(c: &Composite) -> bool
     }
 }
 
-fn define_in(c: &mut Composite, key: Key, value: Obj) -> Mem<()>
+/// Gives a key of a dictionary a value, and tells whether it is a new key.
+fn define_in(c: &mut Composite, key: Key, value: Obj) -> Mem<bool>
     requires { is_new_in c.old key ≡ true → is_full_of c.old ≡ false }
     ensures ok { OnOk result (c.new ≡ with_entry c.old key value) }
+    ensures is_new { IfOk result (λ is_new. is_new ≡ is_new_in c.old key) }
     ensures err { OnErr result (c.new ≡ c.old) }
 {
     match c {
         Composite::Dict(entries) => entries.define(key, value),
-        Composite::Text(_) => Ok(()),
-        Composite::Array(_) => Ok(()),
+        Composite::Text(_) => Ok(false),
+        Composite::Array(_) => Ok(false),
     }
 }
 
