@@ -1,9 +1,13 @@
 -- The integers of a program (PostScript Language Reference, third edition, 3.3.2 Numeric Objects).
 -- Own rule: an integer has 32 bits, so the range doesn't depend on the machine.
-use Rattle.std.specs.Prelude.{ℕ, ℤ, pos, negsuc, ◌-ℤ◌, ◌^◌, ◌-◌, ◌==◌, ◌&&◌, unsigned_abs, int_le, int_lt, int_div, int_rem, nat_lt, Bool, Option, Some, None, if◌then◌else◌}
+use Rattle.std.specs.Prelude.{ℕ, ℤ, pos, negsuc, ◌-ℤ◌, ◌≤ℤ◌, ◌<ℤ◌, ◌^◌, ◌-◌, ◌==◌, ◌&&◌, unsigned_abs, int_le, int_lt, int_div, int_rem, nat_lt, Bool, Option, Some, None, if◌then◌else◌}
 use Rattle.std.specs.Int.{int_rem_euclid}
 
--- whether a whole number lies in 32 bits, with a sign
+-- a whole number that lies in 32 bits, with a sign
+abbrev pub IsWhole : ℤ → Type 0
+IsWhole n = (negsuc (2 ^ 31 - 1) ≤ℤ n) × (n <ℤ pos (2 ^ 31))
+
+-- the same, as a test
 abbrev pub is_whole : ℤ → Bool
 is_whole n = int_le (negsuc (2 ^ 31 - 1)) n && int_lt n (pos (2 ^ 31))
 

@@ -186,3 +186,250 @@ pub fn fix_root(a: Fix) -> Fix
 {
     fix_small(Wide::of_size(u128::from(isqrt(a.wide().size() * 65536))))
 }
+
+#[cfg(test)]
+mod tests {
+    use super::*;
+    use std::test::Fail;
+
+    const TOP: i64 = 140_737_488_355_327;
+
+    const BOTTOM: i64 = -140_737_488_355_328;
+    /// The greatest integer, 2^31 - 1.
+    const LAST: i64 = 140_737_488_289_792;
+
+    fn raw_of(number: Option<Fix>) -> Option<i64> {
+        match number {
+            Some(number) => Some(number.raw()),
+            None => None,
+        }
+    }
+
+    #[test]
+    fn sums_products_and_quotients_round_once_and_stop_at_the_range(
+        rt: HostRuntime,
+    ) -> Result<(), Fail> {
+        // name, two raw values, their sum, difference, product and quotient
+        let cases = [
+            (
+                "ones",
+                65536,
+                65536,
+                Some(131072),
+                Some(0),
+                Some(65536),
+                Some(65536),
+            ),
+            (
+                "a half below zero",
+                65536,
+                -131072,
+                Some(-65536),
+                Some(196608),
+                Some(-131072),
+                Some(-32768),
+            ),
+            ("by zero", 65536, 0, Some(65536), Some(65536), Some(0), None),
+            (
+                "tie of a product",
+                1,
+                32768,
+                Some(32769),
+                Some(-32767),
+                Some(1),
+                Some(2),
+            ),
+            (
+                "tie of a product below zero",
+                -1,
+                32768,
+                Some(32767),
+                Some(-32769),
+                Some(0),
+                Some(-2),
+            ),
+            (
+                "tie of a quotient",
+                1,
+                131072,
+                Some(131073),
+                Some(-131071),
+                Some(2),
+                Some(1),
+            ),
+            (
+                "tie below zero",
+                -1,
+                131072,
+                Some(131071),
+                Some(-131073),
+                Some(-2),
+                Some(0),
+            ),
+            (
+                "tie by a negative",
+                1,
+                -131072,
+                Some(-131071),
+                Some(131073),
+                Some(-2),
+                Some(0),
+            ),
+            (
+                "tie of two negatives",
+                -1,
+                -131072,
+                Some(-131073),
+                Some(131071),
+                Some(2),
+                Some(1),
+            ),
+            (
+                "past the top",
+                TOP,
+                1,
+                None,
+                Some(TOP - 1),
+                Some(2147483648),
+                None,
+            ),
+            (
+                "past the bottom",
+                BOTTOM,
+                1,
+                Some(BOTTOM + 1),
+                None,
+                Some(-2147483648),
+                None,
+            ),
+            (
+                "bottom by minus one",
+                BOTTOM,
+                -65536,
+                None,
+                Some(-LAST),
+                None,
+                None,
+            ),
+            (
+                "top by minus one",
+                TOP,
+                -65536,
+                Some(LAST - 1),
+                None,
+                Some(-TOP),
+                Some(-TOP),
+            ),
+            (
+                "bottom by one",
+                BOTTOM,
+                65536,
+                Some(-LAST),
+                None,
+                Some(BOTTOM),
+                Some(BOTTOM),
+            ),
+            ("top and top", TOP, TOP, None, Some(0), None, Some(65536)),
+            (
+                "bottom and bottom",
+                BOTTOM,
+                BOTTOM,
+                None,
+                Some(0),
+                None,
+                Some(65536),
+            ),
+        ];
+        for (name, a, b, sum, difference, product, quotient) in cases {
+            let a = Fix::of_raw(a).ok_or("out of range")?;
+            let b = Fix::of_raw(b).ok_or("out of range")?;
+            assert_eq!(rt; raw_of(fix_add(a, b)), sum, "sum of {name}");
+            assert_eq!(rt; raw_of(fix_sub(a, b)), difference, "difference of {name}");
+            assert_eq!(rt; raw_of(fix_mul(a, b)), product, "product of {name}");
+            assert_eq!(rt; raw_of(fix_div(a, b)), quotient, "quotient of {name}");
+        }
+        Ok(())
+    }
+
+    #[test]
+    fn integers_next_to_a_number(rt: HostRuntime) -> Result<(), Fail> {
+        // name, raw value, the integers down, up, nearest and to zero, the negative, the magnitude
+        let cases = [
+            (
+                "a half",
+                32768,
+                0,
+                Some(65536),
+                Some(65536),
+                0,
+                Some(-32768),
+                Some(32768),
+            ),
+            (
+                "minus a half",
+                -32768,
+                -65536,
+                Some(0),
+                Some(0),
+                0,
+                Some(32768),
+                Some(32768),
+            ),
+            (
+                "above one",
+                65537,
+                65536,
+                Some(131072),
+                Some(65536),
+                65536,
+                Some(-65537),
+                Some(65537),
+            ),
+            (
+                "below minus one",
+                -65537,
+                -131072,
+                Some(-65536),
+                Some(-65536),
+                -65536,
+                Some(65537),
+                Some(65537),
+            ),
+            ("top", TOP, LAST, None, None, LAST, Some(-TOP), Some(TOP)),
+            (
+                "below the last tie",
+                LAST + 32767,
+                LAST,
+                None,
+                Some(LAST),
+                LAST,
+                Some(-LAST - 32767),
+                Some(LAST + 32767),
+            ),
+            (
+                "bottom",
+                BOTTOM,
+                BOTTOM,
+                Some(BOTTOM),
+                Some(BOTTOM),
+                BOTTOM,
+                None,
+                None,
+            ),
+        ];
+        for (name, raw, down, up, nearest, cut, negative, magnitude) in cases {
+            let number = Fix::of_raw(raw).ok_or("out of range")?;
+            assert_eq!(rt; number.floor().raw(), down, "floor of {name}");
+            assert_eq!(rt; raw_of(number.ceiling()), up, "ceiling of {name}");
+            assert_eq!(rt; raw_of(number.round()), nearest, "nearest of {name}");
+            assert_eq!(rt; number.truncate().raw(), cut, "truncation of {name}");
+            assert_eq!(rt; raw_of(number.negated()), negative, "negative of {name}");
+            assert_eq!(rt;
+                raw_of(number.magnitude()),
+                magnitude,
+                "magnitude of {name}"
+            );
+        }
+        Ok(())
+    }
+}

@@ -132,3 +132,64 @@ pub fn whole_rem(a: Whole, b: Whole) -> Option<Whole>
         whole_from(a.wide().rest(b.wide()))
     }
 }
+
+#[cfg(test)]
+mod tests {
+    use super::*;
+
+    fn value_of(number: Option<Whole>) -> Option<i32> {
+        match number {
+            Some(number) => Some(number.get()),
+            None => None,
+        }
+    }
+
+    #[test]
+    fn quotients_truncate_and_bits_wrap(rt: HostRuntime) {
+        // name, dividend, divisor, quotient, rest
+        let cases = [
+            ("both above zero", 7, 2, Some(3), Some(1)),
+            ("dividend below zero", -7, 2, Some(-3), Some(-1)),
+            ("divisor below zero", 7, -2, Some(-3), Some(1)),
+            ("both below zero", -7, -2, Some(3), Some(-1)),
+            ("by zero", 1, 0, None, None),
+            ("least by minus one", i32::MIN, -1, None, Some(0)),
+        ];
+        for (name, n, d, quotient, rest) in cases {
+            assert_eq!(rt;
+                value_of(whole_div(Whole::of(n), Whole::of(d))),
+                quotient,
+                "{name}"
+            );
+            assert_eq!(rt;
+                value_of(whole_rem(Whole::of(n), Whole::of(d))),
+                rest,
+                "{name}"
+            );
+        }
+        // name, integer, bits
+        let cases = [
+            ("zero", 0, 0),
+            ("minus one", -1, 4294967295),
+            ("least", i32::MIN, 2147483648),
+            ("greatest", i32::MAX, 2147483647),
+        ];
+        for (name, n, bits) in cases {
+            assert_eq!(rt; Whole::of(n).bits(), bits, "bits of {name}");
+            assert_eq!(rt; Whole::of_bits(bits), Whole::of(n), "{name} of its bits");
+        }
+        let last = Whole::of(i32::MAX);
+        assert_eq!(rt; value_of(whole_add(last, Whole::of(1))), None);
+        assert_eq!(rt; value_of(whole_sub(Whole::of(-2), last)), None);
+        assert_eq!(rt;
+            value_of(whole_mul(Whole::of(65536), Whole::of(-32768))),
+            Some(i32::MIN)
+        );
+        assert_eq!(rt;
+            value_of(whole_mul(Whole::of(65536), Whole::of(32768))),
+            None
+        );
+        assert_eq!(rt; value_of(Whole::of(i32::MIN).negated()), None);
+        assert_eq!(rt; value_of(Whole::of(-5).magnitude()), Some(5));
+    }
+}
