@@ -137,7 +137,8 @@ impl Stack {
     /// How many operands stand above the topmost mark, `None` exactly where there is no mark.
     pub fn depth_of_mark(&self) -> Option<usize>
         ensures value { result ≡ position_from is_mark 0 self.now }
-        ensures bound { IfSome result (λ depth. depth < length self.now) }
+        ensures within { IfSome result (λ depth. depth < length self.now) }
+        ensures bound { IfSome result (λ depth. depth < 500) }
     {
         let len = self.items.len();
         for depth in 0..len {

@@ -1,0 +1,128 @@
+-- The operators on the operand stack (PostScript Language Reference, third edition, 8.1 Operator
+-- Summary: Operand Stack Manipulation Operators). Each row goes by cases on the operands, the top
+-- first; its refusals come in the order of the cases: too few operands, their types, the conditions
+-- of the row, stackoverflow.
+use Rattle.std.specs.Prelude.{ℕ, ℤ, pos, ◌+◌, ◌==◌, List, [], ◌∷◌, ◌++◌, length, take, drop, slice_get, unsigned_abs, int_lt, nat_le, nat_lt, Option, Some, None, Result, Ok, Err, if◌then◌else◌}
+use Rattle.std.specs.Int.{int_rem_euclid}
+use Rattle.std.specs.List.{position_from}
+use Rattle.press_fault.specs.declared.names.PsName.{PsName}
+use Rattle.press_fault.specs.declared.names.PsName.TheVariants.{StackUnderflow, StackOverflow, TypeCheck, RangeCheck, UnmatchedMark}
+use Rattle.ps_store.specs.declared.obj.Obj.{Obj}
+use Rattle.ps_store.specs.declared.obj.Obj.TheVariants.{Int, Mark as AMark}
+use Rattle.ps_store.specs.declared.obj.StackOp.{StackOp}
+use Rattle.ps_store.specs.declared.obj.StackOp.TheVariants.{Pop, Exch, Dup, Clear, Count, Copy, Index, Roll, Mark, OpenArray, OpenDict, Cleartomark, Counttomark, Add, Sub, Mul, Div, Idiv, Mod, Neg, Abs, Ceiling, Floor, Round, Truncate, Sqrt, Sin, Cos, Cvi, Cvr, Eq, Ne, Gt, Ge, Lt, Le, And, Or, Xor, Not, Bitshift}
+use Rattle.ps_store.specs.Store.{Kept}
+use Rattle.ps_store.specs.Desk.{Desk}
+use Rattle.ps_store.specs.Stack.{rolled, is_mark}
+use Rattle.ps_store.specs.Outcome.{Outcome, Goes, Refuses, pushed, with_value}
+use Rattle.ps_stack_ops.specs.Arithmetic.{add_value, sub_value, mul_value, div_value, idiv_value, mod_value, neg_value, abs_value, ceiling_value, floor_value, round_value, truncate_value, sqrt_value, cvi_value, cvr_value}
+use Rattle.ps_stack_ops.specs.Logic.{and_value, or_value, xor_value, not_value, bitshift_value}
+
+-- an operator that works a value out of one operand, or of two
+abbrev pub of_one : (Obj → Result Obj PsName) → List Obj → Outcome (List Obj)
+of_one value (a ∷ rest) = with_value (value a) rest
+of_one value [] = Refuses StackUnderflow
+
+abbrev pub of_two : (Obj → Obj → Result Obj PsName) → List Obj → Outcome (List Obj)
+of_two value (b ∷ a ∷ rest) = with_value (value a b) rest
+of_two value operands = Refuses StackUnderflow
+
+abbrev pub pop_row : List Obj → Outcome (List Obj)
+pop_row (a ∷ rest) = Goes rest
+pop_row [] = Refuses StackUnderflow
+
+abbrev pub exch_row : List Obj → Outcome (List Obj)
+exch_row (b ∷ a ∷ rest) = Goes (a ∷ b ∷ rest)
+exch_row operands = Refuses StackUnderflow
+
+abbrev pub dup_row : List Obj → Outcome (List Obj)
+dup_row (a ∷ rest) = pushed a (a ∷ rest)
+dup_row [] = Refuses StackUnderflow
+
+abbrev pub count_row : List Obj → Outcome (List Obj)
+count_row operands = pushed (Int (pos (length operands))) operands
+
+-- the top n of the operands once more
+abbrev pub copied : ℤ → List Obj → Outcome (List Obj)
+copied n operands =
+    if int_lt n (pos 0) then Refuses RangeCheck
+    else (if nat_lt (length operands) (unsigned_abs n) then Refuses StackUnderflow
+    else (if nat_le (length operands + unsigned_abs n) 500 then Goes (take (unsigned_abs n) operands ++ operands)
+    else Refuses StackOverflow))
+
+-- an operand once more, if it is there
+abbrev pub again : Option Obj → List Obj → Outcome (List Obj)
+again (Some o) operands = Goes (o ∷ operands)
+again None operands = Refuses StackUnderflow
+
+abbrev pub index_row : List Obj → Outcome (List Obj)
+index_row (Int n ∷ rest) = if int_lt n (pos 0) then Refuses RangeCheck else again (slice_get rest (unsigned_abs n)) rest
+index_row (a ∷ rest) = Refuses TypeCheck
+index_row [] = Refuses StackUnderflow
+
+-- the top n of the operands turned j places round
+abbrev pub turned : ℕ → ℤ → List Obj → List Obj
+turned n j operands = if n == 0 then operands else rolled n (unsigned_abs (int_rem_euclid j (pos n))) operands
+
+abbrev pub roll_row : List Obj → Outcome (List Obj)
+roll_row (Int j ∷ Int n ∷ rest) =
+    if int_lt n (pos 0) then Refuses RangeCheck
+    else (if nat_lt (length rest) (unsigned_abs n) then Refuses StackUnderflow
+    else Goes (turned (unsigned_abs n) j rest))
+roll_row (b ∷ a ∷ rest) = Refuses TypeCheck
+roll_row operands = Refuses StackUnderflow
+
+abbrev pub cleared : Option ℕ → List Obj → Outcome (List Obj)
+cleared (Some depth) operands = Goes (drop (depth + 1) operands)
+cleared None operands = Refuses UnmatchedMark
+
+abbrev pub cleartomark_row : List Obj → Outcome (List Obj)
+cleartomark_row operands = cleared (position_from is_mark 0 operands) operands
+
+abbrev pub counted : Option ℕ → List Obj → Outcome (List Obj)
+counted (Some depth) operands = pushed (Int (pos depth)) operands
+counted None operands = Refuses UnmatchedMark
+
+abbrev pub counttomark_row : List Obj → Outcome (List Obj)
+counttomark_row operands = counted (position_from is_mark 0 operands) operands
+
+-- what an operator does that leaves the store as it is
+abbrev pub on_operands : Kept → Outcome (List Obj) → Outcome Desk
+on_operands store (Goes operands) = Goes (record { operands = operands; store = store })
+on_operands store (Refuses name) = Refuses name
+
+unfoldable pub stack_row : StackOp → List Obj → Kept → Outcome Desk
+stack_row Pop operands store = on_operands store (pop_row operands)
+stack_row Exch operands store = on_operands store (exch_row operands)
+stack_row Dup operands store = on_operands store (dup_row operands)
+stack_row Clear operands store = Goes (record { operands = []; store = store })
+stack_row Count operands store = on_operands store (count_row operands)
+stack_row Copy operands store = on_operands store (dup_row operands)
+stack_row Index operands store = on_operands store (index_row operands)
+stack_row Roll operands store = on_operands store (roll_row operands)
+stack_row Mark operands store = on_operands store (pushed AMark operands)
+stack_row OpenArray operands store = on_operands store (pushed AMark operands)
+stack_row OpenDict operands store = on_operands store (pushed AMark operands)
+stack_row Cleartomark operands store = on_operands store (cleartomark_row operands)
+stack_row Counttomark operands store = on_operands store (counttomark_row operands)
+stack_row Add operands store = on_operands store (of_two add_value operands)
+stack_row Sub operands store = on_operands store (of_two sub_value operands)
+stack_row Mul operands store = on_operands store (of_two mul_value operands)
+stack_row Div operands store = on_operands store (of_two div_value operands)
+stack_row Idiv operands store = on_operands store (of_two idiv_value operands)
+stack_row Mod operands store = on_operands store (of_two mod_value operands)
+stack_row Neg operands store = on_operands store (of_one neg_value operands)
+stack_row Abs operands store = on_operands store (of_one abs_value operands)
+stack_row Ceiling operands store = on_operands store (of_one ceiling_value operands)
+stack_row Floor operands store = on_operands store (of_one floor_value operands)
+stack_row Round operands store = on_operands store (of_one round_value operands)
+stack_row Truncate operands store = on_operands store (of_one truncate_value operands)
+stack_row Sqrt operands store = on_operands store (of_one sqrt_value operands)
+stack_row Cvi operands store = on_operands store (of_one cvi_value operands)
+stack_row Cvr operands store = on_operands store (of_one cvr_value operands)
+stack_row And operands store = on_operands store (of_two and_value operands)
+stack_row Or operands store = on_operands store (of_two or_value operands)
+stack_row Xor operands store = on_operands store (of_two xor_value operands)
+stack_row Not operands store = on_operands store (of_one not_value operands)
+stack_row Bitshift operands store = on_operands store (of_two bitshift_value operands)
+stack_row op operands store = on_operands store (pop_row operands)

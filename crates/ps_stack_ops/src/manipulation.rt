@@ -1,0 +1,149 @@
+//! Operators that only move operands (PostScript Language Reference, third edition, 8.2).
+ghost use Rattle.std.specs.Prelude.{◌≡◌, ◌∷◌, [], ◌<◌, ◌≤◌, drop, length, unsigned_abs, IfSome};
+ghost use Rattle.ps_store.specs.Outcome.{Answers, pushed, Goes};
+ghost use Rattle.ps_stack_ops.specs.Rows.{pop_row, exch_row, dup_row, count_row, copied, index_row, roll_row, cleartomark_row, counttomark_row};
+
+use press_fault::{PsName, StackOverflow};
+use press_nums::Whole;
+use ps_store::{MAX_OPERANDS, Obj, OpFault, Stack};
+
+/// Puts an object on top.
+pub(crate) fn push(stack: &mut Stack, o: Obj) -> Result<(), OpFault>
+    ensures { Answers (pushed o stack.old) result stack.old stack.new }
+{
+    match stack.push(o) {
+        Ok(()) => Ok(()),
+        Err(StackOverflow) => Err(OpFault::Ps(PsName::StackOverflow)),
+    }
+}
+
+pub(crate) fn pop(stack: &mut Stack) -> Result<(), OpFault>
+    ensures { Answers (pop_row stack.old) result stack.old stack.new }
+{
+    match stack.pop() {
+        Ok(_) => Ok(()),
+        Err(_) => Err(OpFault::Ps(PsName::StackUnderflow)),
+    }
+}
+
+pub(crate) fn exch(stack: &mut Stack) -> Result<(), OpFault>
+    ensures { Answers (exch_row stack.old) result stack.old stack.new }
+{
+    let Some((b, a)) = stack.top_two() else {
+        return Err(OpFault::Ps(PsName::StackUnderflow));
+    };
+    let (b, a) = (*b, *a);
+    stack.replace_two(b, a);
+    Ok(())
+}
+
+pub(crate) fn dup(stack: &mut Stack) -> Result<(), OpFault>
+    ensures { Answers (dup_row stack.old) result stack.old stack.new }
+{
+    let Some(top) = stack.top() else {
+        return Err(OpFault::Ps(PsName::StackUnderflow));
+    };
+    let top = *top;
+    push(stack, top)
+}
+
+pub(crate) fn clear(stack: &mut Stack) -> Result<(), OpFault>
+    ensures { Answers (Goes []) result stack.old stack.new }
+{
+    stack.clear();
+    Ok(())
+}
+
+pub(crate) fn count(stack: &mut Stack) -> Result<(), OpFault>
+    ensures { Answers (count_row stack.old) result stack.old stack.new }
+{
+    let len = stack.len();
+    push(stack, Obj::Int(Whole::of(len as i32)))
+}
+
+/// `copy` with a number of operands on top.
+pub(crate) fn copy_operands(stack: &mut Stack, n: Whole) -> Result<(), OpFault>
+    requires { stack.old ≡ Obj.Int n ∷ drop 1 stack.old }
+    ensures { Answers (copied n (drop 1 stack.old)) result stack.old stack.new }
+{
+    let n = n.get();
+    let wanted = n.unsigned_abs() as usize;
+    let held = stack.len() - 1;
+    if n < 0 {
+        Err(OpFault::Ps(PsName::RangeCheck))
+    } else if held < wanted {
+        Err(OpFault::Ps(PsName::StackUnderflow))
+    } else if held + wanted > MAX_OPERANDS {
+        Err(OpFault::Ps(PsName::StackOverflow))
+    } else {
+        stack.drop_top(1);
+        stack.copy_top(wanted);
+        Ok(())
+    }
+}
+
+pub(crate) fn index(stack: &mut Stack) -> Result<(), OpFault>
+    ensures { Answers (index_row stack.old) result stack.old stack.new }
+{
+    let Some(top) = stack.top() else {
+        return Err(OpFault::Ps(PsName::StackUnderflow));
+    };
+    let Obj::Int(n) = top else {
+        return Err(OpFault::Ps(PsName::TypeCheck));
+    };
+    let n = n.get();
+    if n < 0 {
+        return Err(OpFault::Ps(PsName::RangeCheck));
+    }
+    let Some(wanted) = stack.at(n.unsigned_abs() as usize + 1) else {
+        return Err(OpFault::Ps(PsName::StackUnderflow));
+    };
+    let wanted = *wanted;
+    stack.replace(1, wanted);
+    Ok(())
+}
+
+pub(crate) fn roll(stack: &mut Stack) -> Result<(), OpFault>
+    ensures { Answers (roll_row stack.old) result stack.old stack.new }
+{
+    let Some((j, n)) = stack.top_two() else {
+        return Err(OpFault::Ps(PsName::StackUnderflow));
+    };
+    let (Obj::Int(j), Obj::Int(n)) = (j, n) else {
+        return Err(OpFault::Ps(PsName::TypeCheck));
+    };
+    let (j, n) = (j.wide(), n.get());
+    let size = n.unsigned_abs();
+    if n < 0 {
+        return Err(OpFault::Ps(PsName::RangeCheck));
+    }
+    if stack.len() - 2 < size as usize {
+        return Err(OpFault::Ps(PsName::StackUnderflow));
+    }
+    stack.drop_top(2);
+    if size > 0 {
+        stack.roll(size as usize, j.remainder(size) as usize);
+    }
+    Ok(())
+}
+
+pub(crate) fn cleartomark(stack: &mut Stack) -> Result<(), OpFault>
+    ensures { Answers (cleartomark_row stack.old) result stack.old stack.new }
+{
+    match stack.depth_of_mark() {
+        Some(depth) => {
+            stack.drop_top(depth + 1);
+            Ok(())
+        }
+        None => Err(OpFault::Ps(PsName::UnmatchedMark)),
+    }
+}
+
+pub(crate) fn counttomark(stack: &mut Stack) -> Result<(), OpFault>
+    ensures { Answers (counttomark_row stack.old) result stack.old stack.new }
+{
+    match stack.depth_of_mark() {
+        Some(depth) => push(stack, Obj::Int(Whole::of(depth as i32))),
+        None => Err(OpFault::Ps(PsName::UnmatchedMark)),
+    }
+}
