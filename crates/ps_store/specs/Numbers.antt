@@ -1,5 +1,7 @@
--- What operators read off the integers of a program.
-use Rattle.std.specs.Prelude.{ℕ, ℤ, Option, Some, None, pos, int_le, ◌&&◌, unsigned_abs, nat_lt, if◌then◌else◌}
+-- What operators read off the numbers of a program (PostScript Language Reference, third edition, 3.3.2 Numeric Objects).
+use Rattle.std.specs.Prelude.{ℕ, ℤ, Option, Some, None, pos, int_le, ◌&&◌, unsigned_abs, nat_lt, if◌then◌else◌, ◌*ℤ◌}
+use Rattle.ps_store.specs.declared.obj.Obj.{Obj}
+use Rattle.ps_store.specs.declared.obj.Obj.TheVariants.{Int, Real}
 
 -- the number of a byte, where it is one, and else 0
 abbrev pub byte_of : ℤ → ℕ
@@ -8,3 +10,9 @@ byte_of z = if int_le (pos 0) z && int_le z (pos 255) then unsigned_abs z else 0
 -- the place in so many that a number is, where it is one
 abbrev pub place_of : ℤ → ℕ → Option ℕ
 place_of z len = if int_le (pos 0) z && nat_lt (unsigned_abs z) len then Some (unsigned_abs z) else None
+
+-- the number that an object is, as a count of 1/65536
+abbrev pub raw_of : Obj → Option ℤ
+raw_of (Int n) = Some (n *ℤ pos 65536)
+raw_of (Real raw) = Some raw
+raw_of o = None

@@ -22,7 +22,7 @@ pub use dicts::{Dicts, SYSTEMDICT, USERDICT};
 pub use entries::{ENTRY_LIMIT, Entries};
 pub use fault::OpFault;
 pub use key::{Key, KeyFault};
-pub use numbers::{byte_in, place_in};
+pub use numbers::{byte_in, number, place_in};
 pub use obj::{Obj, Span};
 pub use oper::{DataOp, FlowOp, GfxOp, Oper, PageOp, StackOp};
 pub use stack::{MAX_OPERANDS, Stack};

@@ -1,8 +1,9 @@
-//! What operators read off the integers of a program.
+//! What operators read off the numbers of a program.
 ghost use Rattle.std.specs.Prelude.{◌≡◌, ◌<◌, IfSome};
-ghost use Rattle.ps_store.specs.Numbers.{byte_of, place_of};
+ghost use Rattle.ps_store.specs.Numbers.{byte_of, place_of, raw_of};
 
-use press_nums::Whole;
+use crate::obj::Obj;
+use press_nums::{Fix, Whole};
 
 /// The number of a byte, where it is one, and else 0.
 pub fn byte_in(n: Whole) -> u8
@@ -22,5 +23,16 @@ pub fn place_in(n: Whole, len: u32) -> Option<u32>
         Some(n.unsigned_abs())
     } else {
         None
+    }
+}
+
+/// The number that an object is, `None` where it is none.
+pub fn number(o: &Obj) -> Option<Fix>
+    ensures { result ≡ raw_of o.now }
+{
+    match o {
+        Obj::Int(n) => Some(Fix::of_whole(*n)),
+        Obj::Real(raw) => Some(*raw),
+        _ => None,
     }
 }

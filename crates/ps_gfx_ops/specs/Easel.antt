@@ -1,0 +1,10 @@
+-- What graphics operators work on.
+use Rattle.std.specs.Prelude.{List}
+use Rattle.ps_store.specs.declared.obj.Obj.{Obj}
+use Rattle.gfx_state.specs.Graphics.{Graphics}
+
+pub record Easel : Type 0 where
+  -- the operands, the top first
+  pub operands : List Obj
+  -- the graphics state, its saved copies and the marks of the page
+  pub graphics : Graphics

@@ -1,0 +1,4 @@
+pub mod Easel
+pub mod Colours
+pub mod Rectangles
+pub mod Rows

@@ -1,0 +1,11 @@
+//! The operators on the graphics state and the marks of the page.
+//!
+//! Proved against `specs/Rows.antt` (PostScript Language Reference, third edition, 8.2 Operator Details).
+//! Start with `rows.rt`.
+#![tactic(auto)]
+
+mod colours;
+mod rectangles;
+mod rows;
+
+pub use rows::run_gfx;
