@@ -1,14 +1,13 @@
 //! The dictionary stack.
 ghost use Rattle.std.specs.Prelude.{◌≡◌, ◌≤◌, ◌<◌, ◌∷◌, [], length, reverse, drop, Some, OnOk, OnErr, IfOk, slice_get};
 ghost use Rattle.std.specs.Option.{option_copied};
-ghost use Rattle.ps_store.specs.Dicts.{find_by, find_key, home_of};
+ghost use Rattle.ps_store.specs.Dicts.{find_key, home_of};
 
 use crate::entries::Entries;
 use crate::key::Key;
 use crate::obj::Obj;
 use crate::store::{Composite, Store};
 use arrayvec::ArrayVec;
-use indexmap::Equivalent;
 use press_fault::{DictStackOverflow, DictStackUnderflow, Mem, Name};
 use std::marker::Model;
 
@@ -115,7 +114,7 @@ impl Dicts {
     pub fn find_name<'a>(&self, store: &'a Store, name: &Name) -> Option<&'a Obj>
         ensures { option_copied result ≡ find_key store.now self.now (Key.Named name.now) }
     {
-        find_from_top(&self.items, store, name)
+        find_from_top(&self.items, store, &Key::Named(*name))
     }
 
     /// The topmost dictionary that has a key.
@@ -127,12 +126,12 @@ impl Dicts {
 }
 
 /// The value in the last dictionary of a list that has the key.
-fn find_from_top<'a, Q: Equivalent<Key>>(items: &[u32], store: &'a Store, key: Q) -> Option<&'a Obj>
-    ensures { option_copied result ≡ find_by store.now (reverse items.now) (Q.equivalent key) }
+fn find_from_top<'a>(items: &[u32], store: &'a Store, key: &Key) -> Option<&'a Obj>
+    ensures { option_copied result ≡ find_key store.now (reverse items.now) key.now }
 {
     let mut left = items;
     while let Some((dict, below)) = left.split_last() {
-        if let Some(value) = store.look_up_by(*dict, key) {
+        if let Some(value) = store.look_up(*dict, key) {
             return Some(value);
         }
         left = below;

@@ -8,7 +8,7 @@ ghost use Rattle.ps_store.specs.Keys.{same_key};
 
 use crate::key::Key;
 use crate::obj::Obj;
-use indexmap::{Equivalent, IndexMap};
+use indexmap::IndexMap;
 use press_fault::Mem;
 use std::alloc::Global;
 use std::marker::Model;
@@ -51,8 +51,8 @@ impl Entries {
     }
 
     /// The value of a key.
-    pub fn look_up<Q: Equivalent<Key>>(&self, key: Q) -> Option<&Obj>
-        ensures { option_copied result ≡ lookup (Q.equivalent key) self.now }
+    pub fn look_up(&self, key: &Key) -> Option<&Obj>
+        ensures { option_copied result ≡ lookup (same_key key.now) self.now }
     {
         self.map.get(key)
     }

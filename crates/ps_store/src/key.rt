@@ -3,7 +3,6 @@ ghost use Rattle.std.specs.Prelude.{◌≡◌};
 ghost use Rattle.ps_store.specs.Keys.{object_of};
 
 use crate::obj::Obj;
-use indexmap::Equivalent;
 use press_fault::Name;
 use press_nums::{Fix, Whole};
 use std::hash::{Hash, Hasher};
@@ -69,26 +68,6 @@ impl Hash for Key {
             Key::Integer(n) => Fix::of_whole(*n).hash(state),
             Key::Real(raw) => raw.hash(state),
             Key::Truth(b) => b.hash(state),
-        }
-    }
-}
-
-/// A name is looked up as it is, with no key made of it.
-impl Equivalent<Key> for &Name {
-    ghost use Rattle.ps_store.specs.declared.key.Key.TheVariants.{Named};
-    ghost use Rattle.ps_store.specs.Keys.{same_key};
-    ghost use Rattle.ps_store.specs.KeyLaws.{same_key_equiv, same_keys_fed_alike};
-
-    ghost equivalent = { λ q. same_key (Named q.now) };
-
-    ghost respects_hash = { λ q. same_keys_fed_alike (Named q.now) };
-
-    ghost respects_eq = { λ q. same_key_equiv.congr (Named q.now) };
-
-    fn equivalent(&self, key: &Key) -> bool {
-        match key {
-            Key::Named(name) => *self == name,
-            _ => false,
         }
     }
 }

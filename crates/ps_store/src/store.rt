@@ -3,7 +3,7 @@
 //! A read outside a composite gives null or nothing, and a write outside changes nothing.
 ghost use Rattle.std.specs.Prelude.{◌≡◌, ◌≤◌, ◌<◌, ◌+◌, ◌*◌, ◌^◌, ◌++◌, ◌∷◌, [], ◌↔◌, ℕ, true, false, length, OnOk, OnErr, IfOk, IfSome, IsErrOf, IsTrue, Some, None, replicate, slice_get, slice_index_or};
 ghost use Rattle.std.specs.Option.{option_copied};
-ghost use Rattle.ps_store.specs.Store.{Kept, fits, with_new, with_composite, next_span, with_text, with_text_of, with_array, with_array_of, element, item, operator_of, object_at, object_in, bytes_of, objects_of, put_in, put_at, found, found_by, has, entries_of, entry_at, as_objects, with_dict, defined, is_new_in, is_full_of, with_entry};
+ghost use Rattle.ps_store.specs.Store.{Kept, fits, with_new, with_composite, next_span, with_text, with_text_of, with_array, with_array_of, element, item, operator_of, object_at, object_in, bytes_of, objects_of, put_in, put_at, found, has, entries_of, entry_at, as_objects, with_dict, defined, is_new_in, is_full_of, with_entry};
 ghost use Rattle.ps_store.specs.KeyOf.{key_of, name_key};
 
 use crate::composite::{Bytes, Elements};
@@ -12,7 +12,6 @@ use crate::key::{Key, KeyFault};
 use crate::numbers::byte_in;
 use crate::obj::{Obj, Span};
 use crate::oper::Oper;
-use indexmap::Equivalent;
 use press_fault::{Grow, Mem, Name};
 use press_nums::Whole;
 use std::alloc::Global;
@@ -257,7 +256,12 @@ impl Store {
     pub fn look_up(&self, dict: u32, key: &Key) -> Option<&Obj>
         ensures { option_copied result ≡ found self.now dict key.now }
     {
-        self.look_up_by(dict, key)
+        match self.made.get(dict as usize) {
+            Some(Composite::Dict(entries)) => entries.look_up(key),
+            Some(Composite::Text(_)) => None,
+            Some(Composite::Array(_)) => None,
+            None => None,
+        }
     }
 
     /// Whether a dictionary has a key.
@@ -267,25 +271,6 @@ impl Store {
         match self.look_up(dict, key) {
             Some(_) => true,
             None => false,
-        }
-    }
-
-    /// The value of a name in a dictionary.
-    pub fn look_up_name(&self, dict: u32, name: &Name) -> Option<&Obj>
-        ensures { option_copied result ≡ found self.now dict (Key.Named name.now) }
-    {
-        self.look_up_by(dict, name)
-    }
-
-    /// The value of what stands for a key in a dictionary.
-    pub(crate) fn look_up_by<Q: Equivalent<Key>>(&self, dict: u32, key: Q) -> Option<&Obj>
-        ensures { option_copied result ≡ found_by self.now dict (Q.equivalent key) }
-    {
-        match self.made.get(dict as usize) {
-            Some(Composite::Dict(entries)) => entries.look_up(key),
-            Some(Composite::Text(_)) => None,
-            Some(Composite::Array(_)) => None,
-            None => None,
         }
     }
 
