@@ -1,5 +1,5 @@
 //! The operators, by the crate that does each, with their numbers and names.
-ghost use Rattle.std.specs.Prelude.{◌≡◌};
+ghost use Rattle.std.specs.Prelude.{◌≡◌, ◌≤◌, length};
 ghost use Rattle.ps_store.specs.Operators.{number_of, name_of, stack_name_of, data_name_of, flow_name_of, gfx_name_of, page_name_of, operators_built};
 
 /// Operators on the operands alone, and `copy`.
@@ -242,7 +242,8 @@ impl Oper {
 
     /// The name by which a program calls the operator.
     pub fn name(self) -> &'static str
-        ensures { result.now ≡ name_of self }
+        ensures value { result.now ≡ name_of self }
+        ensures short { length result.now ≤ 127 }
     {
         match self {
             Oper::Stack(op) => stack_name(op),
@@ -262,7 +263,8 @@ impl Oper {
 }
 
 fn stack_name(op: StackOp) -> &'static str
-    ensures { result.now ≡ stack_name_of op }
+    ensures value { result.now ≡ stack_name_of op }
+    ensures short { length result.now ≤ 127 }
 {
     match op {
         StackOp::Pop => "pop",
@@ -310,7 +312,8 @@ fn stack_name(op: StackOp) -> &'static str
 }
 
 fn data_name(op: DataOp) -> &'static str
-    ensures { result.now ≡ data_name_of op }
+    ensures value { result.now ≡ data_name_of op }
+    ensures short { length result.now ≤ 127 }
 {
     match op {
         DataOp::True => "true",
@@ -349,7 +352,8 @@ fn data_name(op: DataOp) -> &'static str
 }
 
 fn flow_name(op: FlowOp) -> &'static str
-    ensures { result.now ≡ flow_name_of op }
+    ensures value { result.now ≡ flow_name_of op }
+    ensures short { length result.now ≤ 127 }
 {
     match op {
         FlowOp::Exec => "exec",
@@ -367,7 +371,8 @@ fn flow_name(op: FlowOp) -> &'static str
 }
 
 fn gfx_name(op: GfxOp) -> &'static str
-    ensures { result.now ≡ gfx_name_of op }
+    ensures value { result.now ≡ gfx_name_of op }
+    ensures short { length result.now ≤ 127 }
 {
     match op {
         GfxOp::Currentgray => "currentgray",
@@ -380,7 +385,8 @@ fn gfx_name(op: GfxOp) -> &'static str
 }
 
 fn page_name(op: PageOp) -> &'static str
-    ensures { result.now ≡ page_name_of op }
+    ensures value { result.now ≡ page_name_of op }
+    ensures short { length result.now ≤ 127 }
 {
     match op {
         PageOp::Quit => "quit",
