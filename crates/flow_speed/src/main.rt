@@ -1,0 +1,44 @@
+//! Counts 100,000,000 turns of an empty loop on the execution stack.
+#![tactic(auto)]
+
+use ps_flow::{Flow, NextObj, run_flow};
+use ps_store::{Dicts, FlowOp, Obj, Span, Stack, Store};
+use std::io;
+
+const TURNS: u32 = 100_000_000;
+
+/// Opens `{ } loop`, and false where it can't.
+fn opened(stack: &mut Stack, flow: &mut Flow, store: &mut Store, dicts: &Dicts) -> bool {
+    let nothing = Span {
+        id: 0,
+        start: 0,
+        len: 0,
+    };
+    stack.push(Obj::Array(nothing, true)).is_ok()
+        && run_flow(FlowOp::Loop, stack, flow, store, dicts).is_ok()
+}
+
+/// How many of so many requests for the next object begin a turn.
+fn turns_of(flow: &mut Flow, requests: u32) -> u32 {
+    let mut turns = 0u32;
+    for _ in 0..requests {
+        if let NextObj::Turn { .. } = flow.next_object() {
+            turns = turns.wrapping_add(1);
+        }
+    }
+    turns
+}
+
+fn main(rt: HostRuntime) -> io::Result<()> {
+    let mut store = Store::new(rt.alloc());
+    let Ok(dicts) = Dicts::new(&mut store) else {
+        return Ok(());
+    };
+    let mut stack = Stack::new();
+    let mut flow = Flow::new(rt.alloc());
+    if opened(&mut stack, &mut flow, &mut store, &dicts) {
+        let turns = turns_of(&mut flow, TURNS);
+        println!(rt; "{turns} turns")?;
+    }
+    Ok(())
+}

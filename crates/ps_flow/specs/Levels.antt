@@ -1,0 +1,113 @@
+-- The execution stack (PostScript Language Reference, third edition, 3.4 Stacks and 3.5.3 Execution of Specific
+-- Types): the levels that are open, the innermost first. Own rules: what counts as a level, and when one goes.
+use Rattle.std.specs.Prelude.{ℤ, ◌+◌, ◌-◌, ◌==◌, Bool, true, false, List, [], ◌∷◌, Option, Some, None, if◌then◌else◌}
+use Rattle.ps_store.specs.declared.oper.FlowOp.{FlowOp}
+use Rattle.ps_store.specs.declared.oper.FlowOp.TheVariants.{Repeat as RepeatOp, Loop as LoopOp, For as ForOp, Forall as ForallOp}
+use Rattle.ps_store.specs.declared.obj.Obj.{Obj}
+use Rattle.ps_store.specs.Parts.{Part}
+use Rattle.ps_flow.specs.declared.counter.Counter.{Counter}
+use Rattle.ps_flow.specs.declared.pushes.Pushes.{Pushes}
+use Rattle.ps_flow.specs.declared.pushes.Pushes.TheVariants.{Nothing, One, Two}
+use Rattle.ps_flow.specs.declared.level.Level.{Level}
+use Rattle.ps_flow.specs.declared.level.Level.TheVariants.{Procedure, Stopped, Loop, Repeat, For, Forall, ForallEntries}
+use Rattle.ps_flow.specs.declared.level.NextObj.{NextObj}
+use Rattle.ps_flow.specs.declared.level.NextObj.TheVariants.{Run, Turn, Passed, Empty}
+use Rattle.ps_flow.specs.declared.level.Advance.{Advance}
+use Rattle.ps_flow.specs.declared.level.Advance.TheVariants.{Ends, Passes, Gives}
+use Rattle.ps_flow.specs.Counting.{is_past, value_of, next_of_counter}
+
+-- a part without its first place
+abbrev pub behind : Part → Part
+behind p = record { id = p.id; start = p.start + 1; len = p.len - 1 }
+
+-- no place of the same composite
+abbrev pub nothing_of : Part → Part
+nothing_of p = record { id = p.id; start = 0; len = 0 }
+
+-- what a level gives when the next object is asked for, and the level then
+pub record Given : Type 0 where
+  pub gives : Advance
+  pub level : Level
+
+-- the next place of a procedure, which is read while it runs; where nothing is left, what comes over
+abbrev pub running : Part → (Part → Level) → Given → Given
+running rest level over =
+    if rest.len == 0 then over else record { gives = Gives (Run rest); level = level (behind rest) }
+
+abbrev pub begins : FlowOp → Pushes → Level → Given
+begins op pushes level = record { gives = Gives (Turn op pushes); level = level }
+
+abbrev pub ends : Level → Given
+ends level = record { gives = Ends; level = level }
+
+-- the value of the next turn of a for, and the control variable then
+pub record Value : Type 0 where
+  pub value : Option Obj
+  pub next : Option Counter
+
+abbrev pub for_turn : Option Counter → ℤ → Value
+for_turn None limit = record { value = None; next = None }
+for_turn (Some counter) limit =
+    if is_past counter limit
+    then record { value = None; next = Some counter }
+    else record { value = Some (value_of counter); next = next_of_counter counter }
+
+abbrev pub for_given : Value → ℤ → Part → Part → Given
+for_given turn limit body rest = elim turn.value [
+  | None ↦ ends (For turn.next limit body rest)
+  | Some value ↦ begins ForOp (One value) (For turn.next limit body body)
+]
+
+abbrev pub forall_given : List Obj → Part → Part → Given
+forall_given [] body rest = ends (Forall [] body rest)
+forall_given (o ∷ left) body rest = begins ForallOp (One o) (Forall left body body)
+
+abbrev pub entries_given : List (Obj × Obj) → Part → Part → Given
+entries_given [] body rest = ends (ForallEntries [] body rest)
+entries_given ((key, value) ∷ left) body rest = begins ForallOp (Two key value) (ForallEntries left body body)
+
+-- a loop whose body has nothing left begins its next turn, if it has one
+abbrev pub given_of : Level → Given
+given_of (Procedure rest) = running rest Procedure (ends (Procedure rest))
+given_of (Stopped rest) = running rest Stopped (record { gives = Passes; level = Stopped rest })
+given_of (Loop body rest) = running rest (Loop body) (begins LoopOp Nothing (Loop body body))
+given_of (Repeat left body rest) = running rest (Repeat left body)
+    (if left == 0 then ends (Repeat left body rest) else begins RepeatOp Nothing (Repeat (left - 1) body body))
+given_of (For next limit body rest) = running rest (For next limit body) (for_given (for_turn next limit) limit body rest)
+given_of (Forall left body rest) = running rest (Forall left body) (forall_given left body rest)
+given_of (ForallEntries left body rest) = running rest (ForallEntries left body) (entries_given left body rest)
+
+-- what comes next, and the levels then
+pub record Next : Type 0 where
+  pub next : NextObj
+  pub levels : List Level
+
+abbrev pub after : Advance → Level → List Level → Next → Next
+after Ends level below further = further
+after Passes level below further = record { next = Passed; levels = below }
+after (Gives next) level below further = record { next = next; levels = level ∷ below }
+
+-- a level that gives nothing goes, and the one below it is asked. So a level stays while its last object is executed
+abbrev pub next_of : List Level → Next
+next_of [] = record { next = Empty; levels = [] }
+next_of (level ∷ below) = after (given_of level).gives (given_of level).level below (next_of below)
+
+abbrev pub is_stopped : Level → Bool
+is_stopped (Stopped rest) = true
+is_stopped level = false
+
+abbrev pub is_loop : Level → Bool
+is_loop (Procedure rest) = false
+is_loop (Stopped rest) = false
+is_loop level = true
+
+-- the levels below the innermost stopped
+abbrev pub below_stopped : List Level → Option (List Level)
+below_stopped [] = None
+below_stopped (level ∷ below) = if is_stopped level then Some below else below_stopped below
+
+-- the levels below the innermost loop, None where there is none or a stopped stands between
+abbrev pub below_loop : List Level → Option (List Level)
+below_loop [] = None
+below_loop (level ∷ below) =
+    if is_loop level then Some below else (if is_stopped level then None else below_loop below)

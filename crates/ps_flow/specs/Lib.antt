@@ -1,0 +1,6 @@
+pub mod Counting
+pub mod Pushes
+pub mod Levels
+pub mod Course
+pub mod Binding
+pub mod Rows

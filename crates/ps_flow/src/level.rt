@@ -1,0 +1,220 @@
+//! Levels of the execution stack.
+ghost use Rattle.std.specs.Prelude.{◌≡◌, ◌<◌};
+ghost use Rattle.ps_flow.specs.Levels.{given_of, for_turn, behind, nothing_of, is_stopped, is_loop};
+
+use crate::contents::{Objects, Pairs};
+use crate::counter::Counter;
+use crate::pushes::Pushes;
+use press_nums::Fix;
+use ps_store::{FlowOp, Obj, Span};
+
+/// A level: a procedure that runs, a loop with its body, or a `stopped` with what it runs.
+///
+/// `rest` is the part of its procedure that hasn't run yet in this turn.
+#[derive(Drop)]
+pub enum Level {
+    Procedure(Span),
+    Stopped(Span),
+    Loop {
+        body: Span,
+        rest: Span,
+    },
+    /// `left` turns are to come.
+    Repeat {
+        left: u32,
+        body: Span,
+        rest: Span,
+    },
+    /// The control variable of the next turn, `None` where the last sum was out of range, and the
+    /// limit.
+    For {
+        next: Option<Counter>,
+        limit: Fix,
+        body: Span,
+        rest: Span,
+    },
+    /// The elements or bytes that are to come.
+    Forall {
+        left: Objects,
+        body: Span,
+        rest: Span,
+    },
+    /// The keys and values that are to come.
+    ForallEntries {
+        left: Pairs,
+        body: Span,
+        rest: Span,
+    },
+}
+
+impl Default for Level {
+    fn default() -> Level {
+        Level::Procedure(Span {
+            id: 0,
+            start: 0,
+            len: 0,
+        })
+    }
+}
+
+impl Level {
+    pub(crate) fn is_stopped(&self) -> bool
+        ensures { result ≡ is_stopped self.now }
+    {
+        match self {
+            Level::Stopped(_) => true,
+            _ => false,
+        }
+    }
+
+    pub(crate) fn is_loop(&self) -> bool
+        ensures { result ≡ is_loop self.now }
+    {
+        match self {
+            Level::Procedure(_) => false,
+            Level::Stopped(_) => false,
+            _ => true,
+        }
+    }
+}
+
+/// What comes next.
+#[derive(Clone, Copy, Debug, PartialEq, Eq)]
+pub enum NextObj {
+    /// The object at the first place of this part of a procedure is to be executed.
+    Run(Span),
+    /// A loop begins a turn. What the turn pushes is pushed once the turn was counted.
+    Turn { op: FlowOp, pushes: Pushes },
+    /// A `stopped` has ended, and its level is gone: false is to be pushed.
+    Passed,
+    /// No level is open.
+    Empty,
+}
+
+/// What a level gives when the next object is asked for.
+#[derive(Clone, Copy, Debug, PartialEq, Eq)]
+pub enum Advance {
+    /// Nothing: the level goes.
+    Ends,
+    /// Nothing, and it is a `stopped`: the level goes.
+    Passes,
+    /// What comes next: the level stays.
+    Gives(NextObj),
+}
+
+/// What a level gives.
+pub(crate) fn given(level: &mut Level) -> Advance
+    ensures { given_of level.old ≡ record { gives = result; level = level.new } }
+{
+    match level {
+        Level::Procedure(rest) => next_place(rest, Advance::Ends),
+        Level::Stopped(rest) => next_place(rest, Advance::Passes),
+        Level::Loop { body, rest } => {
+            if rest.len == 0 {
+                *rest = *body;
+                return turn(FlowOp::Loop, Pushes::Nothing);
+            }
+            next_place(rest, Advance::Ends)
+        }
+        Level::Repeat { left, body, rest } => {
+            if rest.len == 0 {
+                if *left == 0 {
+                    return Advance::Ends;
+                }
+                *left -= 1;
+                *rest = *body;
+                return turn(FlowOp::Repeat, Pushes::Nothing);
+            }
+            next_place(rest, Advance::Ends)
+        }
+        Level::For {
+            next,
+            limit,
+            body,
+            rest,
+        } => {
+            if rest.len == 0 {
+                return match next_value(next, *limit) {
+                    Some(value) => {
+                        *rest = *body;
+                        turn(FlowOp::For, Pushes::One(value))
+                    }
+                    None => Advance::Ends,
+                };
+            }
+            next_place(rest, Advance::Ends)
+        }
+        Level::Forall { left, body, rest } => {
+            if rest.len == 0 {
+                return match left.next() {
+                    Some(o) => {
+                        *rest = *body;
+                        turn(FlowOp::Forall, Pushes::One(o))
+                    }
+                    None => Advance::Ends,
+                };
+            }
+            next_place(rest, Advance::Ends)
+        }
+        Level::ForallEntries { left, body, rest } => {
+            if rest.len == 0 {
+                return match left.next() {
+                    Some((key, value)) => {
+                        *rest = *body;
+                        turn(FlowOp::Forall, Pushes::Two(key, value))
+                    }
+                    None => Advance::Ends,
+                };
+            }
+            next_place(rest, Advance::Ends)
+        }
+    }
+}
+
+/// The next place of a procedure, or what comes where nothing is left of it.
+fn next_place(rest: &mut Span, over: Advance) -> Advance
+    ensures none { rest.old.len ≡ 0 → (result ≡ over) × (rest.new ≡ rest.old) }
+    ensures some { 0 < rest.old.len → (result ≡ Advance.Gives (NextObj.Run rest.old)) × (rest.new ≡ behind rest.old) }
+{
+    if rest.len == 0 {
+        return over;
+    }
+    let here = *rest;
+    *rest = Span {
+        id: here.id,
+        start: here.start + 1,
+        len: here.len - 1,
+    };
+    Advance::Gives(NextObj::Run(here))
+}
+
+fn turn(op: FlowOp, pushes: Pushes) -> Advance
+    ensures { result ≡ Advance.Gives (NextObj.Turn op pushes) }
+{
+    Advance::Gives(NextObj::Turn { op, pushes })
+}
+
+/// The value of the next turn of a `for`, if there is one.
+fn next_value(next: &mut Option<Counter>, limit: Fix) -> Option<Obj>
+    ensures { for_turn next.old limit ≡ record { value = result; next = next.new } }
+{
+    let Some(counter) = *next else {
+        return None;
+    };
+    if counter.is_past(limit) {
+        return None;
+    }
+    *next = counter.next();
+    Some(counter.value())
+}
+
+/// No place of a composite.
+pub(crate) fn nothing_of(p: Span) -> Span
+    ensures { result ≡ nothing_of p }
+{
+    Span {
+        id: p.id,
+        start: 0,
+        len: 0,
+    }
+}

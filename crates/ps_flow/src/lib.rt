@@ -1,0 +1,16 @@
+//! The execution stack, and the operators on it.
+#![tactic(auto)]
+
+mod contents;
+mod counter;
+mod flow;
+mod level;
+mod pushes;
+mod rows;
+
+pub use contents::{Objects, Pairs};
+pub use counter::Counter;
+pub use flow::{Flow, MAX_LEVELS};
+pub use level::{Advance, Level, NextObj};
+pub use pushes::Pushes;
+pub use rows::run_flow;

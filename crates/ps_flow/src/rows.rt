@@ -1,0 +1,313 @@
+//! The operators on the execution stack.
+ghost use Rattle.std.specs.Prelude.{◌≡◌, ◌≢◌, ◌≤◌, ◌<◌, length, drop, IfOk, None, map};
+ghost use Rattle.ps_flow.specs.Course.{Answers, AnswersAll, opens};
+ghost use Rattle.ps_flow.specs.Rows.{flow_row, exec_row, if_row, ifelse_row, for_row, for_from, repeat_row, loop_row, forall_row, contents, keys_and_values, exit_row, stop_row, stopped_row};
+ghost use Rattle.ps_flow.specs.Levels.{nothing_of};
+
+use crate::contents::{Objects, Pairs};
+use crate::counter::{Counter, raw};
+use crate::flow::Flow;
+use crate::level::{Level, nothing_of};
+use press_fault::{Mem, PsName};
+use press_nums::Fix;
+use ps_store::{Dicts, FlowOp, Obj, OpFault, Span, Stack, Store};
+use std::alloc::Global;
+
+/// What the operators answer: an object that is to be executed at once, or why not.
+type Then = Result<Option<Obj>, OpFault>;
+
+/// Does what an operator does, exactly as its row says.
+///
+/// It answers the object that is to be executed at once, before the next one: what `exec` or `stopped` found and is no
+/// procedure. After `stop` true is to be pushed.
+#[tactic(auto, unfolding(crate::specs::Rows::flow_row))]
+pub fn run_flow(
+    op: FlowOp,
+    stack: &mut Stack,
+    flow: &mut Flow,
+    store: &mut Store,
+    dicts: &Dicts,
+) -> Then
+    requires { op ≢ FlowOp.Bind }
+    ensures { AnswersAll (flow_row op stack.old flow.old store.old dicts.now) result (record { operands = stack.old; levels = flow.old; store = store.old }) (record { operands = stack.new; levels = flow.new; store = store.new }) }
+{
+    match op {
+        FlowOp::Exec => exec(stack, flow),
+        FlowOp::If => if_(stack, flow),
+        FlowOp::Ifelse => ifelse(stack, flow),
+        FlowOp::For => for_(stack, flow),
+        FlowOp::Repeat => repeat(stack, flow),
+        FlowOp::Loop => loop_(stack, flow),
+        FlowOp::Forall => forall(stack, flow, store),
+        FlowOp::Exit => exit(stack, flow),
+        FlowOp::Stop => stop(stack, flow),
+        FlowOp::Stopped => stopped(stack, flow),
+        FlowOp::Bind => unreachable!(),
+    }
+}
+
+/// Opens a level in the place of the top `n` operands.
+fn open(stack: &mut Stack, flow: &mut Flow, n: usize, level: Level, at_once: Option<Obj>) -> Then
+    requires { n ≤ length stack.old }
+    ensures { Answers (opens level (drop n stack.old) flow.old at_once) result stack.old flow.old stack.new flow.new }
+{
+    if flow.is_full() {
+        return Err(OpFault::Ps(PsName::ExecStackOverflow));
+    }
+    flow.open(level);
+    stack.drop_top(n);
+    Ok(at_once)
+}
+
+fn exec(stack: &mut Stack, flow: &mut Flow) -> Then
+    ensures { Answers (exec_row stack.old flow.old) result stack.old flow.old stack.new flow.new }
+{
+    let Some(top) = stack.top() else {
+        return Err(OpFault::Ps(PsName::StackUnderflow));
+    };
+    let top = *top;
+    match &top {
+        Obj::Array(p, true) => open(stack, flow, 1, Level::Procedure(*p), None),
+        _ => {
+            stack.drop_top(1);
+            Ok(Some(top))
+        }
+    }
+}
+
+fn if_(stack: &mut Stack, flow: &mut Flow) -> Then
+    ensures { Answers (if_row stack.old flow.old) result stack.old flow.old stack.new flow.new }
+{
+    let Some((p, b)) = stack.top_two() else {
+        return Err(OpFault::Ps(PsName::StackUnderflow));
+    };
+    match (p, b) {
+        (Obj::Array(p, true), Obj::Bool(true)) => {
+            let level = Level::Procedure(*p);
+            open(stack, flow, 2, level, None)
+        }
+        (Obj::Array(_, true), Obj::Bool(false)) => {
+            stack.drop_top(2);
+            Ok(None)
+        }
+        _ => Err(OpFault::Ps(PsName::TypeCheck)),
+    }
+}
+
+fn ifelse(stack: &mut Stack, flow: &mut Flow) -> Then
+    ensures { Answers (ifelse_row stack.old flow.old) result stack.old flow.old stack.new flow.new }
+{
+    let Some((otherwise, then, b)) = stack.top_three() else {
+        return Err(OpFault::Ps(PsName::StackUnderflow));
+    };
+    match (otherwise, then, b) {
+        (Obj::Array(_, true), Obj::Array(p, true), Obj::Bool(true)) => {
+            let level = Level::Procedure(*p);
+            open(stack, flow, 3, level, None)
+        }
+        (Obj::Array(q, true), Obj::Array(_, true), Obj::Bool(false)) => {
+            let level = Level::Procedure(*q);
+            open(stack, flow, 3, level, None)
+        }
+        _ => Err(OpFault::Ps(PsName::TypeCheck)),
+    }
+}
+
+fn for_(stack: &mut Stack, flow: &mut Flow) -> Then
+    ensures { Answers (for_row stack.old flow.old) result stack.old flow.old stack.new flow.new }
+{
+    let Some((p, limit, step, first)) = stack.top_four() else {
+        return Err(OpFault::Ps(PsName::StackUnderflow));
+    };
+    match p {
+        Obj::Array(p, true) => {
+            let (body, counter, limit) = (*p, Counter::from(first, step), raw(limit));
+            for_from(stack, flow, body, counter, limit)
+        }
+        _ => Err(OpFault::Ps(PsName::TypeCheck)),
+    }
+}
+
+/// Opens the level of a `for`, in the place of four operands.
+fn for_from(
+    stack: &mut Stack,
+    flow: &mut Flow,
+    body: Span,
+    counter: Option<Counter>,
+    limit: Option<Fix>,
+) -> Then
+    requires { 4 ≤ length stack.old }
+    ensures { Answers (for_from counter limit body (drop 4 stack.old) flow.old) result stack.old flow.old stack.new flow.new }
+{
+    let (Some(counter), Some(limit)) = (counter, limit) else {
+        return Err(OpFault::Ps(PsName::TypeCheck));
+    };
+    let level = Level::For {
+        next: Some(counter),
+        limit,
+        body,
+        rest: nothing_of(body),
+    };
+    open(stack, flow, 4, level, None)
+}
+
+fn repeat(stack: &mut Stack, flow: &mut Flow) -> Then
+    ensures { Answers (repeat_row stack.old flow.old) result stack.old flow.old stack.new flow.new }
+{
+    let Some((p, n)) = stack.top_two() else {
+        return Err(OpFault::Ps(PsName::StackUnderflow));
+    };
+    match (p, n) {
+        (Obj::Array(p, true), Obj::Int(n)) => {
+            let (body, n) = (*p, n.get());
+            if n < 0 {
+                return Err(OpFault::Ps(PsName::RangeCheck));
+            }
+            let rest = nothing_of(body);
+            let left = n.unsigned_abs();
+            open(stack, flow, 2, Level::Repeat { left, body, rest }, None)
+        }
+        _ => Err(OpFault::Ps(PsName::TypeCheck)),
+    }
+}
+
+fn loop_(stack: &mut Stack, flow: &mut Flow) -> Then
+    ensures { Answers (loop_row stack.old flow.old) result stack.old flow.old stack.new flow.new }
+{
+    let Some(top) = stack.top() else {
+        return Err(OpFault::Ps(PsName::StackUnderflow));
+    };
+    match top {
+        Obj::Array(p, true) => {
+            let body = *p;
+            let rest = nothing_of(body);
+            open(stack, flow, 1, Level::Loop { body, rest }, None)
+        }
+        _ => Err(OpFault::Ps(PsName::TypeCheck)),
+    }
+}
+
+fn forall(stack: &mut Stack, flow: &mut Flow, store: &Store) -> Then
+    ensures { Answers (forall_row stack.old flow.old store.now) result stack.old flow.old stack.new flow.new }
+{
+    let Some((p, over)) = stack.top_two() else {
+        return Err(OpFault::Ps(PsName::StackUnderflow));
+    };
+    match (p, over) {
+        (Obj::Array(p, true), Obj::Array(a, _)) => {
+            let (body, a) = (*p, *a);
+            forall_elements(stack, flow, store, body, a)
+        }
+        (Obj::Array(p, true), Obj::Text(t)) => {
+            let (body, t) = (*p, *t);
+            forall_elements(stack, flow, store, body, t)
+        }
+        (Obj::Array(p, true), Obj::Dict(d)) => {
+            let (body, dict) = (*p, *d);
+            forall_entries(stack, flow, store, body, dict)
+        }
+        _ => Err(OpFault::Ps(PsName::TypeCheck)),
+    }
+}
+
+/// Opens the level of a `forall` over an array or a string, in the place of two operands.
+fn forall_elements(
+    stack: &mut Stack,
+    flow: &mut Flow,
+    store: &Store,
+    body: Span,
+    over: Span,
+) -> Then
+    requires { 2 ≤ length stack.old }
+    ensures { Answers (opens (Level.Forall (contents store.now over) body (nothing_of body)) (drop 2 stack.old) flow.old None) result stack.old flow.old stack.new flow.new }
+{
+    if flow.is_full() {
+        return Err(OpFault::Ps(PsName::ExecStackOverflow));
+    }
+    let Ok(items) = elements(flow.alloc(), store, over) else {
+        return Err(OpFault::NoMemory);
+    };
+    let rest = nothing_of(body);
+    let left = Objects::of(items);
+    open(stack, flow, 2, Level::Forall { left, body, rest }, None)
+}
+
+/// Opens the level of a `forall` over a dictionary, in the place of two operands.
+fn forall_entries(stack: &mut Stack, flow: &mut Flow, store: &Store, body: Span, dict: u32) -> Then
+    requires { 2 ≤ length stack.old }
+    ensures { Answers (opens (Level.ForallEntries (keys_and_values store.now dict) body (nothing_of body)) (drop 2 stack.old) flow.old None) result stack.old flow.old stack.new flow.new }
+{
+    if flow.is_full() {
+        return Err(OpFault::Ps(PsName::ExecStackOverflow));
+    }
+    let Ok(items) = entries(flow.alloc(), store, dict) else {
+        return Err(OpFault::NoMemory);
+    };
+    let rest = nothing_of(body);
+    let left = Pairs::of(items);
+    open(
+        stack,
+        flow,
+        2,
+        Level::ForallEntries { left, body, rest },
+        None,
+    )
+}
+
+/// The keys and values of a dictionary, in the order in which they were first defined.
+fn entries(alloc: Global, store: &Store, dict: u32) -> Mem<Vec<(Obj, Obj)>>
+    ensures { IfOk result (λ items. items.items ≡ keys_and_values store.now dict) }
+{
+    let items = (0..store.entries(dict))
+        .map(|at| store.entry(dict, at))
+        .collect(alloc)?;
+    Ok(items)
+}
+
+/// The elements of an array, or the bytes of a string as integers, in order.
+fn elements(alloc: Global, store: &Store, span: Span) -> Mem<Vec<Obj>>
+    ensures { IfOk result (λ items. items.items ≡ contents store.now span) }
+{
+    let items = (0..span.len).map(|at| store.get(span, at)).collect(alloc)?;
+    Ok(items)
+}
+
+fn exit(stack: &mut Stack, flow: &mut Flow) -> Then
+    ensures { Answers (exit_row stack.old flow.old) result stack.old flow.old stack.new flow.new }
+{
+    if flow.leave_loop() {
+        Ok(None)
+    } else {
+        Err(OpFault::Ps(PsName::InvalidExit))
+    }
+}
+
+fn stop(stack: &mut Stack, flow: &mut Flow) -> Then
+    ensures { Answers (stop_row stack.old flow.old) result stack.old flow.old stack.new flow.new }
+{
+    if flow.unwind() {
+        Ok(None)
+    } else {
+        Err(OpFault::Ps(PsName::InvalidExit))
+    }
+}
+
+fn stopped(stack: &mut Stack, flow: &mut Flow) -> Then
+    ensures { Answers (stopped_row stack.old flow.old) result stack.old flow.old stack.new flow.new }
+{
+    let Some(top) = stack.top() else {
+        return Err(OpFault::Ps(PsName::StackUnderflow));
+    };
+    let top = *top;
+    match &top {
+        Obj::Array(p, true) => open(stack, flow, 1, Level::Stopped(*p), None),
+        _ => {
+            let nothing = Span {
+                id: 0,
+                start: 0,
+                len: 0,
+            };
+            open(stack, flow, 1, Level::Stopped(nothing), Some(top))
+        }
+    }
+}
