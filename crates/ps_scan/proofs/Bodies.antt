@@ -3,7 +3,8 @@ use Rattle.std.proofs.Common.{◌≡◌, ℕ, zero, suc, ◌+◌, ◌-◌, ◌*�
 use Rattle.std.specs.Prelude.{◌==◌, ◌||◌}
 use Rattle.std.proofs.lemmas.Bool.{false≢true, eqb-true}
 use Rattle.ps_scan.specs.Characters.{begins}
-use Rattle.ps_scan.specs.Strings.{is_octal, is_plain, is_escaped, escaped, after_return, Body, Walk, one_more, gives, normal, walk}
+use Rattle.ps_scan.specs.Strings.{is_octal, is_plain, is_escaped, escaped, after_return, Body}
+use Rattle.ps_scan.specs.StringReading.{Walk, one_more, gives, normal, walk}
 use Rattle.ps_scan.specs.Strings.Body.{Closes, ClosesInner, OpensInner, Plain, LineEnd, DropsLine, DropsReturn, Escaped, OneOctal, TwoOctals, ThreeOctals}
 use Rattle.ps_scan.specs.declared.strings.Inside.TheVariants.{Normal, Return, Escape, One, Two}
 use Rattle.ps_scan.specs.declared.strings.Does.TheVariants.{Goes}

@@ -1,8 +1,10 @@
 -- The bounds of each token that the grammar relates to a text.
 use Rattle.std.proofs.Common.{◌≡◌, ℕ, ◌+◌, List, false, drop, refl, lit≤, subst, sym, ap, ◌∙◌}
 use Rattle.std.proofs.lemmas.List.{drop-drop}
-use Rattle.ps_scan.specs.Grammar.{IsRead, Reads}
-use Rattle.ps_scan.specs.Grammar.Reads.{AtEnd, Unclosed, Integer, GreatInteger, Word, LongWord, Name, LongName, NowName, LongNow, OpenBrace, DeepBrace, CloseBrace, LoneBrace, LeftBracket, RightBracket, HexString, LongHex, BadHex, LessLess, GreaterGreater, LoneGreater, ParenString, LongString, OpenString, LoneParen}
+use Rattle.ps_scan.specs.Grammar.{IsRead, Reads, number_outcome}
+use Rattle.ps_scan.specs.declared.numerals.Numeral.{Numeral}
+use Rattle.ps_scan.specs.declared.numerals.Numeral.TheVariants.{Whole, Decimal, TooGreat}
+use Rattle.ps_scan.specs.Grammar.Reads.{AtEnd, Unclosed, Number, Word, LongWord, Name, LongName, NowName, LongNow, OpenBrace, DeepBrace, CloseBrace, LoneBrace, LeftBracket, RightBracket, HexString, LongHex, BadHex, LessLess, GreaterGreater, LoneGreater, ParenString, LongString, OpenString, LoneParen}
 use Rattle.ps_scan.specs.Outcome.{Outcome, IsWithinLimits}
 use Rattle.ps_scan.specs.Outcome.Outcome.{Gives, BreaksSyntax, PassesLimit}
 use Rattle.ps_scan.specs.Reading.{reads, blank_len, start_of, outcome_of, scanned}
@@ -15,11 +17,15 @@ Bounded depth (Gives token rest) = IsWithinLimits depth token rest
 Bounded depth BreaksSyntax = Unit {0}
 Bounded depth PassesLimit = Unit {0}
 
+number_bounded : (depth : ℕ) (numeral : Numeral) (rest : List ℕ) → Bounded depth (number_outcome numeral rest)
+number_bounded depth (Whole n) rest = tt
+number_bounded depth (Decimal raw) rest = tt
+number_bounded depth TooGreat rest = tt
+
 reads_bounded : (depth : ℕ) (text : List ℕ) (outcome : Outcome) → Reads depth text outcome → Bounded depth outcome
 reads_bounded _ _ _ AtEnd = (refl, refl)
 reads_bounded _ _ _ (Unclosed depth h) = tt
-reads_bounded _ _ _ (Integer depth text run rest negative digits r i f) = tt
-reads_bounded _ _ _ (GreatInteger depth text run rest negative digits r i f) = tt
+reads_bounded _ _ _ (Number depth text run rest numeral r i) = number_bounded depth numeral rest
 reads_bounded _ _ _ (Word depth text run rest r s n h) = h
 reads_bounded _ _ _ (LongWord depth text run rest r n h) = tt
 reads_bounded _ _ _ (Name depth text run rest s r h) = h

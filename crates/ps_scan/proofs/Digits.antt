@@ -5,7 +5,7 @@ use Rattle.std.specs.List.{filter}
 use Rattle.std.proofs.lemmas.Bool.{eqb-true}
 use Rattle.std.proofs.lemmas.List.{length-take-le}
 use Rattle.std.proofs.Math.Nat.{suc-min-suc}
-use Rattle.ps_scan.specs.Characters.{is_hex, hex_value, pairs}
+use Rattle.ps_scan.specs.Characters.{is_hex, digit_value, pairs}
 use Rattle.ps_scan.specs.Taking.{hex_count, hex_front, behind_hex}
 use Rattle.ps_scan.specs.Filling.{hex_put, hex_used}
 use Rattle.ps_scan.proofs.Runs.{by_bool, drop_more}
@@ -27,7 +27,7 @@ unfoldable whole : ℕ → List ℕ → List ℕ
 whole zero ds = []
 whole (suc room) [] = []
 whole (suc room) (a ∷ []) = []
-whole (suc room) (a ∷ b ∷ ds) = (16 * hex_value a + hex_value b) ∷ whole room ds
+whole (suc room) (a ∷ b ∷ ds) = (16 * digit_value a + digit_value b) ∷ whole room ds
 
 not_zero : (n : ℕ) → (suc n == 0) ≡ false
 not_zero n = by_bool (suc n == 0) (λ e. absurd (let z = eqb-true (suc n) 0 e in omega arith)) (λ e. e)
@@ -37,7 +37,7 @@ back_one n = omega arith
 
 record Put (text : List ℕ) : Type 0 where
   none : (room : ℕ) → hex_put room None text ≡ whole room (filter is_hex text)
-  some : (room a : ℕ) → hex_put room (Some (hex_value a)) text ≡ whole room (a ∷ filter is_hex text)
+  some : (room a : ℕ) → hex_put room (Some (digit_value a)) text ≡ whole room (a ∷ filter is_hex text)
 
 none_here : (c : ℕ) (cs : List ℕ) → Put cs → (room : ℕ) → hex_put room None (c ∷ cs) ≡ whole room (filter is_hex (c ∷ cs))
 unfolding hex_put whole
@@ -46,11 +46,11 @@ none_here c cs ih (suc r) = by_bool (is_hex c)
     (λ e. rw (not_zero r, e) (ih.some (suc r) c))
     (λ e. rw (not_zero r, e) (ih.none (suc r)))
 
-some_here : (c : ℕ) (cs : List ℕ) → Put cs → (room a : ℕ) → hex_put room (Some (hex_value a)) (c ∷ cs) ≡ whole room (a ∷ filter is_hex (c ∷ cs))
+some_here : (c : ℕ) (cs : List ℕ) → Put cs → (room a : ℕ) → hex_put room (Some (digit_value a)) (c ∷ cs) ≡ whole room (a ∷ filter is_hex (c ∷ cs))
 unfolding hex_put whole
 some_here c cs ih zero a = refl
 some_here c cs ih (suc r) a = by_bool (is_hex c)
-    (λ e. rw (not_zero r, e, back_one r) (ap (λ bytes. (16 * hex_value a + hex_value c) ∷ bytes) (ih.none r)))
+    (λ e. rw (not_zero r, e, back_one r) (ap (λ bytes. (16 * digit_value a + digit_value c) ∷ bytes) (ih.none r)))
     (λ e. rw (not_zero r, e) (ih.some (suc r) a))
 
 nothing_left : (room a : ℕ) → (whole room [] ≡ []) × (whole room (a ∷ []) ≡ [])
@@ -77,7 +77,7 @@ unfolding whole pairs
 whole_is_front zero ds = rw (min_none (length ds / 2)) refl
 whole_is_front (suc r) [] = rw (min_left (suc r)) refl
 whole_is_front (suc r) (a ∷ []) = rw (min_left (suc r)) refl
-whole_is_front (suc r) (a ∷ b ∷ ds) = rw (half_more (length ds), suc-min-suc r (length ds / 2)) (ap (λ bytes. (16 * hex_value a + hex_value b) ∷ bytes) (whole_is_front r ds))
+whole_is_front (suc r) (a ∷ b ∷ ds) = rw (half_more (length ds), suc-min-suc r (length ds / 2)) (ap (λ bytes. (16 * digit_value a + digit_value b) ∷ bytes) (whole_is_front r ds))
 
 -- what is put from left to right is the front of the pairs
 pub put_is_front : (room : ℕ) (text : List ℕ) → hex_put room None text ≡ hex_front room text
@@ -110,7 +110,7 @@ none_left : (c : ℕ) (cs : List ℕ) → Left cs → (room : ℕ) → drop (hex
 unfolding hex_used behind_hex
 none_left c cs ih zero = refl
 none_left c cs ih (suc r) = by_bool (is_hex c)
-    (λ e. rw (not_zero r, e, twice r) (drop_more (hex_used (suc r) (Some (hex_value c)) cs) c cs ∙ (ih.some (suc r) (hex_value c) ∙ rw e (ap (λ n. behind_hex n cs) (odd_back r)))))
+    (λ e. rw (not_zero r, e, twice r) (drop_more (hex_used (suc r) (Some (digit_value c)) cs) c cs ∙ (ih.some (suc r) (digit_value c) ∙ rw e (ap (λ n. behind_hex n cs) (odd_back r)))))
     (λ e. rw (not_zero r, e, twice r) (drop_more (hex_used (suc r) None cs) c cs ∙ (ih.none (suc r) ∙ rw (twice r, e) refl)))
 
 some_left : (c : ℕ) (cs : List ℕ) → Left cs → (room high : ℕ) → drop (hex_used room (Some high) (c ∷ cs)) (c ∷ cs) ≡ behind_hex (2 * room - 1) (c ∷ cs)

@@ -1,4 +1,5 @@
 pub mod Runs
+pub mod NumberForms
 pub mod Only
 pub mod Total
 pub mod Unique

@@ -1,26 +1,30 @@
 -- A token that is related to a text is the one that the function finds.
-use Rattle.std.proofs.Common.{◌≡◌, ℕ, suc, ◌+◌, ◌*◌, ◌/◌, ◌<◌, ◌≤◌, Bool, true, false, ◌&&◌, List, [], ◌∷◌, ◌++◌, length, drop, arith, ap, sym, refl, ◌∙◌, subst}
-use Rattle.std.specs.Prelude.{◌==◌, nat_lt, Option, Some, None}
+use Rattle.std.proofs.Common.{◌≡◌, ℕ, suc, ◌+◌, ◌*◌, ◌/◌, ◌<◌, ◌≤◌, Bool, true, false, List, [], ◌∷◌, ◌++◌, length, drop, arith, ap, sym, refl, ◌∙◌, subst}
+use Rattle.std.specs.Prelude.{◌==◌, Option, Some, None}
 use Rattle.std.specs.List.{list_all, filter}
-use Rattle.std.proofs.lemmas.Bool.{false≢true, leb-true, le-leb, lt-leb, eqb-true}
+use Rattle.std.proofs.lemmas.Bool.{false≢true, le-leb, lt-leb, eqb-true}
 use Rattle.std.proofs.lemmas.List.Sums.{length-filter}
 use Rattle.std.proofs.lemmas.List.{drop-drop}
 use Rattle.std.proofs.Math.Seq.{drop-append_seam}
-use Rattle.ps_scan.specs.Characters.{is_hex, hex_value, is_hex_or_white, is_greater, pairs, is_digit, is_regular, begins, IsRun, white_after}
-use Rattle.ps_scan.specs.Numbers.{IsInteger, Sign, is_integer, unsigned, is_minus, decimal_value, with_sign, fits_int}
-use Rattle.ps_scan.specs.Strings.{Body, walk}
+use Rattle.ps_scan.specs.Characters.{is_hex, digit_value, is_hex_or_white, is_greater, pairs, is_regular, begins, IsRun, white_after}
+use Rattle.ps_scan.specs.Strings.{Body}
+use Rattle.ps_scan.specs.StringReading.{walk}
+use Rattle.ps_scan.specs.Numerals.{IsNumeral}
+use Rattle.ps_scan.specs.NumeralReading.{numeral_of}
+use Rattle.ps_scan.specs.declared.numerals.Numeral.{Numeral}
+use Rattle.ps_scan.specs.declared.numerals.Numeral.TheVariants.{Whole, Decimal, TooGreat}
+use Rattle.ps_scan.proofs.NumberForms.{numeral_only, numeral_some, no_numeral}
 use Rattle.ps_scan.specs.declared.strings.Inside.TheVariants.{Normal}
 use Rattle.ps_scan.proofs.Bodies.{body_finds, walk_body}
-use Rattle.ps_scan.specs.Numbers.Sign.{NoSign, Plus, Minus}
-use Rattle.ps_scan.specs.Reading.{outcome_of, reads, read_word, read_slash, read_literal, read_now, word, named, integer, hex_bytes, hex_len, hex_text, read_hex, read_less, read_greater, read_paren}
+use Rattle.ps_scan.specs.Reading.{outcome_of, reads, read_word, read_slash, read_literal, read_now, word, named, number, hex_bytes, hex_len, hex_text, read_hex, read_less, read_greater, read_paren}
 use Rattle.ps_scan.specs.Reading.Reading.{Found, Malformed, OverLimit}
 use Rattle.ps_scan.specs.Outcome.{Outcome}
-use Rattle.ps_scan.specs.Grammar.{Reads, behind, is_solidus, is_less}
+use Rattle.ps_scan.specs.Grammar.{Reads, behind, number_outcome, is_solidus, is_less}
 use Rattle.ps_scan.specs.Outcome.Outcome.{Gives}
-use Rattle.ps_scan.specs.Grammar.Reads.{AtEnd, Unclosed, Integer, GreatInteger, Word, LongWord, Name, LongName, NowName, LongNow, OpenBrace, DeepBrace, CloseBrace, LoneBrace, LeftBracket, RightBracket, HexString, LongHex, BadHex, LessLess, GreaterGreater, LoneGreater, ParenString, LongString, OpenString, LoneParen}
+use Rattle.ps_scan.specs.Grammar.Reads.{AtEnd, Unclosed, Number, Word, LongWord, Name, LongName, NowName, LongNow, OpenBrace, DeepBrace, CloseBrace, LoneBrace, LeftBracket, RightBracket, HexString, LongHex, BadHex, LessLess, GreaterGreater, LoneGreater, ParenString, LongString, OpenString, LoneParen}
 use Rattle.ps_scan.specs.declared.token.Token.{Token}
-use Rattle.ps_scan.specs.declared.token.Token.TheVariants.{Int, Literal, Exec, Now, Text}
-use Rattle.ps_scan.proofs.Runs.{by_bool, and_first, and_second, run_is_len, run_is_take, run_is_drop, drop_more}
+use Rattle.ps_scan.specs.declared.token.Token.TheVariants.{Int, Real, Literal, Exec, Now, Text}
+use Rattle.ps_scan.proofs.Runs.{by_bool, and_first, run_is_len, run_is_take, run_is_drop, drop_more}
 
 -- the white space behind goes with it
 with_behind : (token : Token) (used : ℕ) (text rest : List ℕ) → drop used text ≡ rest → outcome_of text (Found token (used + white_after (drop used text))) ≡ Gives token (behind rest)
@@ -33,58 +37,6 @@ named_short make name used text rest h e = rw (le-leb (length name) 127 h) (with
 named_long : (make : List ℕ → Token) (name : List ℕ) (used : ℕ) (text : List ℕ) → 127 < length name → named make name used text ≡ OverLimit
 unfolding named
 named_long make name used text h = rw (lt-leb (length name) 127 h) refl
-
-digits_not_sign : (c : ℕ) → is_digit c ≡ true → ((c == 43) ≡ false) × ((c == 45) ≡ false)
-digits_not_sign c h = (
-  by_bool (c == 43) (λ e. absurd (false≢true (subst (λ (d : ℕ). is_digit d ≡ true) (eqb-true c 43 e) h))) (λ e. e),
-  by_bool (c == 45) (λ e. absurd (false≢true (subst (λ (d : ℕ). is_digit d ≡ true) (eqb-true c 45 e) h))) (λ e. e),
-)
-
-plain_unsigned : (digits : List ℕ) → list_all is_digit digits ≡ true → unsigned digits ≡ digits
-plain_unsigned [] h = refl
-plain_unsigned (c ∷ cs) h = let n = digits_not_sign c (and_first (is_digit c) (list_all is_digit cs) h) in rw (n.0, n.1) refl
-
-plain_minus : (digits : List ℕ) → list_all is_digit digits ≡ true → is_minus digits ≡ false
-plain_minus [] h = refl
-plain_minus (c ∷ cs) h = let n = digits_not_sign c (and_first (is_digit c) (list_all is_digit cs) h) in n.1
-
-unsigned_of : (sign : List ℕ) (negative : Bool) (digits : List ℕ) → Sign sign negative → list_all is_digit digits ≡ true → unsigned (sign ++ digits) ≡ digits
-unsigned_of _ _ digits NoSign h = plain_unsigned digits h
-unsigned_of _ _ digits Plus h = refl
-unsigned_of _ _ digits Minus h = refl
-
-is_minus_of : (sign : List ℕ) (negative : Bool) (digits : List ℕ) → Sign sign negative → list_all is_digit digits ≡ true → is_minus (sign ++ digits) ≡ negative
-is_minus_of _ _ digits NoSign h = plain_minus digits h
-is_minus_of _ _ digits Plus h = refl
-is_minus_of _ _ digits Minus h = refl
-
--- a run that is an integer, and its parts
-unsigned_is : (run digits : List ℕ) (negative : Bool) → IsInteger run negative digits → unsigned run ≡ digits
-unsigned_is run digits negative i = ap unsigned i.joined ∙ unsigned_of i.sign negative digits i.signed i.all
-
-is_minus_is : (run digits : List ℕ) (negative : Bool) → IsInteger run negative digits → is_minus run ≡ negative
-is_minus_is run digits negative i = ap is_minus i.joined ∙ is_minus_of i.sign negative digits i.signed i.all
-
-pub is_integer_is : (run digits : List ℕ) (negative : Bool) → IsInteger run negative digits → is_integer run ≡ true
-is_integer_is run digits negative i = rw (unsigned_is run digits negative i, le-leb 1 (length digits) i.some, i.all) refl
-
--- and the other way round
-parts_of : (c : ℕ) (cs : List ℕ) → is_integer (c ∷ cs) ≡ true → IsInteger (c ∷ cs) (is_minus (c ∷ cs)) (unsigned (c ∷ cs))
-parts_of c cs h = by_bool (c == 43)
-    (λ e. subst (λ (d : ℕ). is_integer (d ∷ cs) ≡ true → IsInteger (d ∷ cs) (is_minus (d ∷ cs)) (unsigned (d ∷ cs))) (sym (eqb-true c 43 e))
-    (λ g. record { sign = 43 ∷ []; signed = Plus; joined = refl; some = leb-true 1 (length cs) (and_first (nat_lt 0 (length cs)) (list_all is_digit cs) g); all = and_second (nat_lt 0 (length cs)) (list_all is_digit cs) g }) h)
-    (λ e. by_bool (c == 45)
-    (λ f. subst (λ (d : ℕ). is_integer (d ∷ cs) ≡ true → IsInteger (d ∷ cs) (is_minus (d ∷ cs)) (unsigned (d ∷ cs))) (sym (eqb-true c 45 f))
-    (λ g. record { sign = 45 ∷ []; signed = Minus; joined = refl; some = leb-true 1 (length cs) (and_first (nat_lt 0 (length cs)) (list_all is_digit cs) g); all = and_second (nat_lt 0 (length cs)) (list_all is_digit cs) g }) h)
-    (λ f. rw (e, f) (let g : is_integer (c ∷ cs) ≡ true = h in let k : (nat_lt 0 (length (c ∷ cs)) && list_all is_digit (c ∷ cs)) ≡ true = rw (e, f) at g in
-    record { sign = []; signed = NoSign; joined = refl; some = omega arith; all = and_second (nat_lt 0 (length (c ∷ cs))) (list_all is_digit (c ∷ cs)) k })))
-
-pub integer_parts : (run : List ℕ) → is_integer run ≡ true → IsInteger run (is_minus run) (unsigned run)
-integer_parts [] h = absurd (false≢true h)
-integer_parts (c ∷ cs) h = parts_of c cs h
-
-pub not_integer : (run : List ℕ) → ((negative : Bool) (digits : List ℕ) → IsInteger run negative digits → ⊥) → is_integer run ≡ false
-not_integer run n = by_bool (is_integer run) (λ e. absurd (n (is_minus run) (unsigned run) (integer_parts run e))) (λ e. e)
 
 reads_regular : (depth : ℕ) (text : List ℕ) → begins is_regular text ≡ true → reads depth text ≡ read_word text
 unfolding reads
@@ -104,25 +56,17 @@ word_reads depth text run rest r h =
 pub run_behind : (text run rest : List ℕ) → IsRun is_regular text run rest → drop (length run) text ≡ rest
 run_behind text run rest r = ap (λ n. drop n text) (sym (run_is_len is_regular text run rest r)) ∙ run_is_drop is_regular text run rest r
 
-some_digits : (sign digits : List ℕ) → 0 < length digits → 0 < length (sign ++ digits)
-some_digits [] digits h = h
-some_digits (c ∷ cs) digits h = omega arith
+number_reads : (text run rest : List ℕ) (numeral : Numeral) → IsRun is_regular text run rest → outcome_of text (number numeral run text) ≡ number_outcome numeral rest
+unfolding number
+number_reads text run rest (Whole n) r = with_behind (Int n) (length run) text rest (run_behind text run rest r)
+number_reads text run rest (Decimal raw) r = with_behind (Real raw) (length run) text rest (run_behind text run rest r)
+number_reads text run rest TooGreat r = refl
 
-integer_some : (run digits : List ℕ) (negative : Bool) → IsInteger run negative digits → 0 < length run
-integer_some run digits negative i = rw i.joined (some_digits i.sign digits i.some)
+number_word : (text run : List ℕ) (numeral : Numeral) → IsNumeral run numeral → word run text ≡ number numeral run text
+unfolding word
+number_word text run numeral i = rw (numeral_only run numeral i) refl
 
-integer_fits : (text run rest digits : List ℕ) (negative : Bool) → IsRun is_regular text run rest → IsInteger run negative digits → fits_int negative (decimal_value digits) ≡ true → outcome_of text (word run text) ≡ Gives (Int (with_sign negative (decimal_value digits))) (behind rest)
-unfolding word integer
-integer_fits text run rest digits negative r i f =
-    rw (is_integer_is run digits negative i, is_minus_is run digits negative i, unsigned_is run digits negative i, f)
-    (with_behind (Int (with_sign negative (decimal_value digits))) (length run) text rest (run_behind text run rest r))
-
-integer_great : (text run digits : List ℕ) (negative : Bool) → IsInteger run negative digits → fits_int negative (decimal_value digits) ≡ false → word run text ≡ OverLimit
-unfolding word integer
-integer_great text run digits negative i f =
-    rw (is_integer_is run digits negative i, is_minus_is run digits negative i, unsigned_is run digits negative i, f) refl
-
-plain_word : (text run : List ℕ) → is_integer run ≡ false → word run text ≡ named Exec run (length run) text
+plain_word : (text run : List ℕ) → numeral_of run ≡ None → word run text ≡ named Exec run (length run) text
 unfolding word
 plain_word text run h = rw h refl
 
@@ -152,9 +96,9 @@ drop_two n text = ap (λ k. drop k (47 ∷ 47 ∷ text)) (two_more n)
 abbrev held : Option ℕ → List ℕ → List ℕ
 held None ds = pairs ds
 held (Some high) [] = (16 * high) ∷ []
-held (Some high) (d ∷ ds) = (16 * high + hex_value d) ∷ pairs ds
+held (Some high) (d ∷ ds) = (16 * high + digit_value d) ∷ pairs ds
 
-pairs_held : (d : ℕ) (ds : List ℕ) → pairs (d ∷ ds) ≡ held (Some (hex_value d)) ds
+pairs_held : (d : ℕ) (ds : List ℕ) → pairs (d ∷ ds) ≡ held (Some (digit_value d)) ds
 unfolding pairs
 pairs_held d [] = refl
 pairs_held d (e ∷ ds) = refl
@@ -164,10 +108,10 @@ unfolding hex_bytes pairs
 hex_held None [] = refl
 hex_held (Some high) [] = refl
 hex_held None (c ∷ cs) = by_bool (is_hex c)
-    (λ e. rw e (hex_held (Some (hex_value c)) cs ∙ sym (pairs_held c (filter is_hex cs))))
+    (λ e. rw e (hex_held (Some (digit_value c)) cs ∙ sym (pairs_held c (filter is_hex cs))))
     (λ e. rw e (hex_held None cs))
 hex_held (Some high) (c ∷ cs) = by_bool (is_hex c)
-    (λ e. rw e (ap (λ bytes. (16 * high + hex_value c) ∷ bytes) (hex_held None cs)))
+    (λ e. rw e (ap (λ bytes. (16 * high + digit_value c) ∷ bytes) (hex_held None cs)))
     (λ e. rw e (hex_held (Some high) cs))
 
 half_more : (n : ℕ) → (suc (suc n) + 1) / 2 ≡ suc ((n + 1) / 2)
@@ -250,10 +194,9 @@ pub reads_only : (depth : ℕ) (text : List ℕ) (outcome : Outcome) → Reads d
 unfolding reads read_slash read_less read_greater is_regular
 reads_only _ _ _ AtEnd = refl
 reads_only _ _ _ (Unclosed depth h) = rw (not_zero depth h) refl
-reads_only _ _ _ (Integer depth text run rest negative digits r i f) = sym (ap (outcome_of text) (word_reads depth text run rest r (integer_some run digits negative i)) ∙ integer_fits text run rest digits negative r i f)
-reads_only _ _ _ (GreatInteger depth text run rest negative digits r i f) = sym (ap (outcome_of text) (word_reads depth text run rest r (integer_some run digits negative i) ∙ integer_great text run digits negative i f))
-reads_only _ _ _ (Word depth text run rest r s n h) = sym (ap (outcome_of text) (word_reads depth text run rest r s ∙ plain_word text run (not_integer run n)) ∙ named_short Exec run (length run) text rest h (run_behind text run rest r))
-reads_only _ _ _ (LongWord depth text run rest r n h) = sym (ap (outcome_of text) (word_reads depth text run rest r (omega (arith, h)) ∙ (plain_word text run (not_integer run n) ∙ named_long Exec run (length run) text h)))
+reads_only _ _ _ (Number depth text run rest numeral r i) = sym (ap (outcome_of text) (word_reads depth text run rest r (numeral_some run numeral i) ∙ number_word text run numeral i) ∙ number_reads text run rest numeral r)
+reads_only _ _ _ (Word depth text run rest r s n h) = sym (ap (outcome_of text) (word_reads depth text run rest r s ∙ plain_word text run (no_numeral run n)) ∙ named_short Exec run (length run) text rest h (run_behind text run rest r))
+reads_only _ _ _ (LongWord depth text run rest r n h) = sym (ap (outcome_of text) (word_reads depth text run rest r (omega (arith, h)) ∙ (plain_word text run (no_numeral run n) ∙ named_long Exec run (length run) text h)))
 reads_only _ _ _ (Name depth text run rest s r h) = sym (ap (outcome_of (47 ∷ text)) (slash_other text (47 ∷ text) s ∙ literal_is text run rest r) ∙ named_short Literal run (1 + length run) (47 ∷ text) rest h (drop_more (length run) 47 text ∙ run_behind text run rest r))
 reads_only _ _ _ (LongName depth text run rest s r h) = sym (ap (outcome_of (47 ∷ text)) (slash_other text (47 ∷ text) s ∙ (literal_is text run rest r ∙ named_long Literal run (1 + length run) (47 ∷ text) h)))
 reads_only _ _ _ (NowName depth text run rest r h) = sym (ap (outcome_of (47 ∷ 47 ∷ text)) (now_is text run rest r) ∙ named_short Now run (2 + length run) (47 ∷ 47 ∷ text) rest h (drop_two (length run) text ∙ run_behind text run rest r))

@@ -47,13 +47,13 @@ drop_more n c cs = ap (λ k. drop k (c ∷ cs)) (one_more n)
 take_more_of : (n c : ℕ) (cs : List ℕ) → take (1 + n) (c ∷ cs) ≡ c ∷ take n cs
 take_more_of n c cs = ap (λ k. take k (c ∷ cs)) (one_more n)
 
-passes_front : (p : ℕ → Bool) (text : List ℕ) → list_all p (take (prefix_len p text) text) ≡ true
+pub passes_front : (p : ℕ → Bool) (text : List ℕ) → list_all p (take (prefix_len p text) text) ≡ true
 passes_front p [] = refl
 passes_front p (c ∷ cs) = by_bool (p c)
     (λ e. rw (e, take_more_of (prefix_len p cs) c cs, e) (passes_front p cs))
     (λ e. rw e refl)
 
-stops_behind : (p : ℕ → Bool) (text : List ℕ) → begins p (drop (prefix_len p text) text) ≡ false
+pub stops_behind : (p : ℕ → Bool) (text : List ℕ) → begins p (drop (prefix_len p text) text) ≡ false
 stops_behind p [] = refl
 stops_behind p (c ∷ cs) = by_bool (p c)
     (λ e. rw (e, drop_more (prefix_len p cs) c cs) (stops_behind p cs))

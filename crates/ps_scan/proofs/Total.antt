@@ -1,21 +1,22 @@
 -- Each text has a token or a fault.
-use Rattle.std.proofs.Common.{◌≡◌, ℕ, zero, suc, ◌<◌, Bool, true, false, leb, List, [], ◌∷◌, length, take, drop, arith, sym, refl, ◌∙◌, subst}
+use Rattle.std.proofs.Common.{inl, inr, ◌≡◌, ℕ, zero, suc, ◌<◌, Bool, true, false, leb, List, [], ◌∷◌, length, take, drop, arith, sym, refl, ◌∙◌, subst}
 use Rattle.std.specs.Prelude.{◌==◌, ◌||◌}
 use Rattle.std.specs.List.{prefix_len, filter}
 use Rattle.std.proofs.lemmas.Bool.{false≢true, leb-true, leb-false, eqb-true}
 use Rattle.ps_scan.specs.Characters.{is_hex, is_hex_or_white, pairs, is_white, is_regular, begins, IsRun}
-use Rattle.ps_scan.specs.Numbers.{IsInteger, is_integer, unsigned, is_minus, decimal_value, with_sign, fits_int}
-use Rattle.ps_scan.specs.Strings.{Body, walk}
+use Rattle.ps_scan.proofs.NumberForms.{numeral_total}
+use Rattle.ps_scan.specs.Strings.{Body}
+use Rattle.ps_scan.specs.StringReading.{walk}
 use Rattle.ps_scan.specs.declared.strings.Inside.TheVariants.{Normal}
 use Rattle.ps_scan.proofs.Bodies.{body_finds, walk_body}
 use Rattle.ps_scan.specs.Reading.{reads, outcome_of}
 use Rattle.ps_scan.specs.Outcome.{Outcome}
-use Rattle.ps_scan.specs.Grammar.{Reads, behind, is_solidus, is_less}
+use Rattle.ps_scan.specs.Grammar.{Reads, behind, number_outcome, is_solidus, is_less}
 use Rattle.ps_scan.specs.Outcome.Outcome.{Gives, BreaksSyntax, PassesLimit}
-use Rattle.ps_scan.specs.Grammar.Reads.{AtEnd, Unclosed, Integer, GreatInteger, Word, LongWord, Name, LongName, NowName, LongNow, OpenBrace, DeepBrace, CloseBrace, LoneBrace, LeftBracket, RightBracket, HexString, LongHex, BadHex, LessLess, GreaterGreater, LoneGreater, ParenString, LongString, OpenString, LoneParen}
-use Rattle.ps_scan.specs.declared.token.Token.TheVariants.{Int, Literal, Exec, Now, Text, Open, Close, End}
+use Rattle.ps_scan.specs.Grammar.Reads.{AtEnd, Unclosed, Number, Word, LongWord, Name, LongName, NowName, LongNow, OpenBrace, DeepBrace, CloseBrace, LoneBrace, LeftBracket, RightBracket, HexString, LongHex, BadHex, LessLess, GreaterGreater, LoneGreater, ParenString, LongString, OpenString, LoneParen}
+use Rattle.ps_scan.specs.declared.token.Token.TheVariants.{Literal, Exec, Now, Text, Open, Close, End}
 use Rattle.ps_scan.specs.Grammar.{is_blank}
-use Rattle.ps_scan.proofs.Only.{reads_only, is_integer_is, integer_parts}
+use Rattle.ps_scan.proofs.Only.{reads_only}
 use Rattle.ps_scan.proofs.Runs.{by_bool, run_is_len, front_is_run}
 
 abbrev pub is_paren : ℕ → Bool
@@ -24,9 +25,6 @@ is_paren c = c == 40
 pub not_either : (a b : Bool) → (a || b) ≡ false → (a ≡ false) × (b ≡ false)
 not_either true b h = absurd (false≢true (sym h))
 not_either false b h = (refl, h)
-
-no_parts : (run : List ℕ) → is_integer run ≡ false → (negative : Bool) (digits : List ℕ) → IsInteger run negative digits → ⊥
-no_parts run e negative digits i = false≢true (sym e ∙ is_integer_is run digits negative i)
 
 abbrev Some_reads : ℕ → List ℕ → Type 0
 Some_reads depth text = (o : Outcome) × Reads depth text o
@@ -52,14 +50,12 @@ word_total depth c cs h =
     let rest = drop (prefix_len is_regular (c ∷ cs)) (c ∷ cs) in
     let r : IsRun is_regular (c ∷ cs) run rest = front_is_run is_regular (c ∷ cs) in
     let some : 0 < length run = rw (sym (run_is_len is_regular (c ∷ cs) run rest r), h) (omega arith) in
-    by_bool (is_integer run)
-    (λ e. by_bool (fits_int (is_minus run) (decimal_value (unsigned run)))
-    (λ f. (Gives (Int (with_sign (is_minus run) (decimal_value (unsigned run)))) (behind rest), Integer depth (c ∷ cs) run rest (is_minus run) (unsigned run) r (integer_parts run e) f))
-    (λ f. (PassesLimit, GreatInteger depth (c ∷ cs) run rest (is_minus run) (unsigned run) r (integer_parts run e) f)))
-    (λ e. let none : (negative : Bool) (digits : List ℕ) → IsInteger run negative digits → ⊥ = no_parts run e in
-    by_bool (leb (length run) 127)
-    (λ f. (Gives (Exec run) (behind rest), Word depth (c ∷ cs) run rest r some none (leb-true (length run) 127 f)))
-    (λ f. (PassesLimit, LongWord depth (c ∷ cs) run rest r none (leb-false (length run) 127 f))))
+    elim (numeral_total run) [
+      | inl found ↦ (number_outcome found.0 rest, Number depth (c ∷ cs) run rest found.0 r found.1)
+      | inr none ↦ by_bool (leb (length run) 127)
+          (λ f. (Gives (Exec run) (behind rest), Word depth (c ∷ cs) run rest r some none (leb-true (length run) 127 f)))
+          (λ f. (PassesLimit, LongWord depth (c ∷ cs) run rest r none (leb-false (length run) 127 f)))
+    ]
 
 name_total : (depth : ℕ) (text : List ℕ) → begins is_solidus text ≡ false → Some_reads depth (47 ∷ text)
 name_total depth text s =

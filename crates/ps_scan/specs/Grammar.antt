@@ -3,8 +3,10 @@ use Rattle.std.specs.Prelude.{◌≡◌, ℕ, ◌==◌, ◌<◌, ◌≤◌, Bool
 use Rattle.std.specs.List.{filter}
 use Rattle.ps_scan.specs.Characters.{is_hex, is_hex_or_white, is_greater, pairs, is_white, is_line_end, is_regular, begins, IsRun, white_after}
 use Rattle.ps_scan.specs.Strings.{Body}
-use Rattle.ps_scan.specs.Numbers.{IsInteger, decimal_value, with_sign, fits_int}
-use Rattle.ps_scan.specs.declared.token.Token.TheVariants.{Int, Literal, Exec, Now, Text, Open, Close, End}
+use Rattle.ps_scan.specs.Numerals.{IsNumeral}
+use Rattle.ps_scan.specs.declared.numerals.Numeral.{Numeral}
+use Rattle.ps_scan.specs.declared.numerals.Numeral.TheVariants.{Whole, Decimal, TooGreat}
+use Rattle.ps_scan.specs.declared.token.Token.TheVariants.{Int, Real, Literal, Exec, Now, Text, Open, Close, End}
 use Rattle.ps_scan.specs.Outcome.{Outcome}
 use Rattle.ps_scan.specs.Outcome.Outcome.{Gives, BreaksSyntax, PassesLimit}
 
@@ -27,14 +29,22 @@ pub data Skips : List ℕ → List ℕ → Type 0 where
 abbrev pub behind : List ℕ → List ℕ
 behind rest = drop (white_after rest) rest
 
+-- a number's token, unless the number passes a limit
+abbrev pub number_outcome : Numeral → List ℕ → Outcome
+number_outcome (Whole n) rest = Gives (Int n) (behind rest)
+number_outcome (Decimal raw) rest = Gives (Real raw) (behind rest)
+number_outcome TooGreat rest = PassesLimit
+
+abbrev pub IsNoNumeral : List ℕ → Type 0
+IsNoNumeral run = (numeral : Numeral) → IsNumeral run numeral → ⊥
+
 -- the token at the front of a text that begins with no blank, where so many procedures are open
 pub data Reads : ℕ → List ℕ → Outcome → Type 0 where
   AtEnd : Reads 0 [] (Gives End [])
   Unclosed : (depth : ℕ) → 0 < depth → Reads depth [] BreaksSyntax
-  Integer : (depth : ℕ) (text run rest : List ℕ) (negative : Bool) (digits : List ℕ) → IsRun is_regular text run rest → IsInteger run negative digits → fits_int negative (decimal_value digits) ≡ true → Reads depth text (Gives (Int (with_sign negative (decimal_value digits))) (behind rest))
-  GreatInteger : (depth : ℕ) (text run rest : List ℕ) (negative : Bool) (digits : List ℕ) → IsRun is_regular text run rest → IsInteger run negative digits → fits_int negative (decimal_value digits) ≡ false → Reads depth text PassesLimit
-  Word : (depth : ℕ) (text run rest : List ℕ) → IsRun is_regular text run rest → 0 < length run → ((negative : Bool) (digits : List ℕ) → IsInteger run negative digits → ⊥) → length run ≤ 127 → Reads depth text (Gives (Exec run) (behind rest))
-  LongWord : (depth : ℕ) (text run rest : List ℕ) → IsRun is_regular text run rest → ((negative : Bool) (digits : List ℕ) → IsInteger run negative digits → ⊥) → 127 < length run → Reads depth text PassesLimit
+  Number : (depth : ℕ) (text run rest : List ℕ) (numeral : Numeral) → IsRun is_regular text run rest → IsNumeral run numeral → Reads depth text (number_outcome numeral rest)
+  Word : (depth : ℕ) (text run rest : List ℕ) → IsRun is_regular text run rest → 0 < length run → IsNoNumeral run → length run ≤ 127 → Reads depth text (Gives (Exec run) (behind rest))
+  LongWord : (depth : ℕ) (text run rest : List ℕ) → IsRun is_regular text run rest → IsNoNumeral run → 127 < length run → Reads depth text PassesLimit
   Name : (depth : ℕ) (text run rest : List ℕ) → begins is_solidus text ≡ false → IsRun is_regular text run rest → length run ≤ 127 → Reads depth (47 ∷ text) (Gives (Literal run) (behind rest))
   LongName : (depth : ℕ) (text run rest : List ℕ) → begins is_solidus text ≡ false → IsRun is_regular text run rest → 127 < length run → Reads depth (47 ∷ text) PassesLimit
   NowName : (depth : ℕ) (text run rest : List ℕ) → IsRun is_regular text run rest → length run ≤ 127 → Reads depth (47 ∷ 47 ∷ text) (Gives (Now run) (behind rest))

@@ -1,12 +1,14 @@
 -- The token at the front of a text, found from its first byte.
 use Rattle.std.specs.Prelude.{◌≡◌, ℕ, ◌+◌, ◌*◌, ◌/◌, ◌==◌, Bool, true, false, not, ◌||◌, List, [], ◌∷◌, length, take, drop, if◌then◌else◌, nat_le, nat_lt, Option, Some, None}
 use Rattle.std.specs.List.{prefix_len, count_by}
-use Rattle.ps_scan.specs.Characters.{is_hex, hex_value, is_hex_or_white, begins, is_greater, is_white, is_line_end, is_regular, white_after}
-use Rattle.ps_scan.specs.Strings.{walk}
+use Rattle.ps_scan.specs.Characters.{is_hex, digit_value, is_hex_or_white, begins, is_greater, is_white, is_line_end, is_regular, white_after}
+use Rattle.ps_scan.specs.StringReading.{walk}
 use Rattle.ps_scan.specs.declared.strings.Inside.TheVariants.{Normal}
-use Rattle.ps_scan.specs.Numbers.{is_integer, unsigned, is_minus, decimal_value, with_sign, fits_int}
+use Rattle.ps_scan.specs.NumeralReading.{numeral_of}
+use Rattle.ps_scan.specs.declared.numerals.Numeral.{Numeral}
+use Rattle.ps_scan.specs.declared.numerals.Numeral.TheVariants.{Whole, Decimal, TooGreat}
 use Rattle.ps_scan.specs.declared.token.Token.{Token}
-use Rattle.ps_scan.specs.declared.token.Token.TheVariants.{Int, Literal, Exec, Now, Text, Open, Close, End}
+use Rattle.ps_scan.specs.declared.token.Token.TheVariants.{Int, Real, Literal, Exec, Now, Text, Open, Close, End}
 use Rattle.ps_scan.specs.declared.token.ScanFault.{ScanFault}
 use Rattle.ps_scan.specs.declared.token.ScanFault.TheVariants.{Syntax, Limit, NoMemory}
 use Rattle.ps_scan.specs.Outcome.{Outcome, IsText}
@@ -45,13 +47,17 @@ and_white token used text = Found token (used + white_after (drop used text))
 unfoldable pub named : (List ℕ → Token) → List ℕ → ℕ → List ℕ → Reading
 named make name used text = if nat_le (length name) 127 then and_white (make name) used text else OverLimit
 
-unfoldable pub integer : List ℕ → List ℕ → Reading
-integer run text =
-    if fits_int (is_minus run) (decimal_value (unsigned run)) then and_white (Int (with_sign (is_minus run) (decimal_value (unsigned run)))) (length run) text
-    else OverLimit
+unfoldable pub number : Numeral → List ℕ → List ℕ → Reading
+number (Whole n) run text = and_white (Int n) (length run) text
+number (Decimal raw) run text = and_white (Real raw) (length run) text
+number TooGreat run text = OverLimit
+
+abbrev pub word_as : Option Numeral → List ℕ → List ℕ → Reading
+word_as None run text = named Exec run (length run) text
+word_as (Some numeral) run text = number numeral run text
 
 unfoldable pub word : List ℕ → List ℕ → Reading
-word run text = if is_integer run then integer run text else named Exec run (length run) text
+word run text = word_as (numeral_of run) run text
 
 unfoldable pub read_word : List ℕ → Reading
 read_word text = word (take (prefix_len is_regular text) text) text
@@ -66,8 +72,8 @@ read_now text = named Now (take (prefix_len is_regular (drop 2 text)) (drop 2 te
 unfoldable pub hex_bytes : Option ℕ → List ℕ → List ℕ
 hex_bytes None [] = []
 hex_bytes (Some high) [] = (16 * high) ∷ []
-hex_bytes None (c ∷ cs) = if is_hex c then hex_bytes (Some (hex_value c)) cs else hex_bytes None cs
-hex_bytes (Some high) (c ∷ cs) = if is_hex c then (16 * high + hex_value c) ∷ hex_bytes None cs else hex_bytes (Some high) cs
+hex_bytes None (c ∷ cs) = if is_hex c then hex_bytes (Some (digit_value c)) cs else hex_bytes None cs
+hex_bytes (Some high) (c ∷ cs) = if is_hex c then (16 * high + digit_value c) ∷ hex_bytes None cs else hex_bytes (Some high) cs
 
 abbrev pub hex_len : List ℕ → ℕ
 hex_len body = (count_by is_hex body + 1) / 2

@@ -1,58 +1,58 @@
--- Reals (PostScript Language Reference, third edition, 3.2.2 Scalars).
-use Rattle.std.specs.Prelude.{ℕ, ◌+◌, ◌==◌, ℤ, pos, ◌-ℤ◌, Bool, true, false, ◌&&◌, ◌||◌, List, [], ◌∷◌, ◌++◌, length, take, drop, Option, if◌then◌else◌, nat_le, nat_lt}
-use Rattle.std.specs.List.{prefix_len}
+-- Reals (PostScript Language Reference, third edition, 3.2 Syntax, Numbers).
+use Rattle.std.specs.Prelude.{◌≡◌, ℕ, ◌+◌, ◌<◌, ◌==◌, ℤ, pos, ◌-ℤ◌, Bool, true, false, ◌&&◌, ◌||◌, List, [], ◌∷◌, ◌++◌, length, Option, Some, None, if◌then◌else◌, nat_le}
+use Rattle.std.specs.List.{list_all}
 use Rattle.press_nums.specs.Decimal.{signed, decimal_of}
 use Rattle.ps_scan.specs.Characters.{is_digit}
-use Rattle.ps_scan.specs.Numbers.{are_digits, unsigned, is_minus, decimal_value}
+use Rattle.ps_scan.specs.Integers.{Sign, are_digits, decimal_value}
+use Rattle.ps_scan.specs.declared.numerals.Numeral.{Numeral}
+use Rattle.ps_scan.specs.declared.numerals.Numeral.TheVariants.{Decimal, TooGreat}
 
-abbrev pub digits_in : List ℕ → List ℕ
-digits_in text = take (prefix_len is_digit text) text
-
-abbrev pub behind_digits : List ℕ → List ℕ
-behind_digits text = drop (prefix_len is_digit text) text
-
--- the digits behind a point, if one stands there
-abbrev pub fraction_of : List ℕ → List ℕ
-fraction_of [] = []
-fraction_of (c ∷ cs) = if c == 46 then digits_in cs else []
-
-abbrev pub behind_fraction : List ℕ → List ℕ
-behind_fraction [] = []
-behind_fraction (c ∷ cs) = if c == 46 then behind_digits cs else c ∷ cs
-
--- an exponent, or nothing
-abbrev pub is_power : List ℕ → Bool
-is_power [] = true
-is_power (c ∷ cs) = (c == 101 || c == 69) && are_digits (unsigned cs)
-
-abbrev pub power_digits : List ℕ → List ℕ
-power_digits [] = []
-power_digits (c ∷ cs) = unsigned cs
-
-abbrev pub power_minus : List ℕ → Bool
-power_minus [] = false
-power_minus (c ∷ cs) = is_minus cs
-
--- a real's parts
+-- what a real is written with: its sign, the digits before and behind its point, and its exponent's sign and digits
 pub record Parts : Type 0 where
   pub negative : Bool
   pub whole : List ℕ
   pub fraction : List ℕ
+  pub minus : Bool
   pub power : List ℕ
 
-abbrev pub parts_from : Bool → List ℕ → List ℕ → Parts
-parts_from negative whole behind = record { negative = negative; whole = whole; fraction = fraction_of behind; power = behind_fraction behind }
+-- a point and the digits behind it, or nothing
+pub data Point : List ℕ → List ℕ → Type 0 where
+  NoPoint : Point [] []
+  APoint : (fraction : List ℕ) → list_all is_digit fraction ≡ true → Point (46 ∷ fraction) fraction
 
-unfoldable pub parts_of : List ℕ → Parts
-parts_of run = parts_from (is_minus run) (digits_in (unsigned run)) (behind_digits (unsigned run))
+abbrev pub is_power_mark : ℕ → Bool
+is_power_mark c = c == 101 || c == 69
 
-abbrev pub is_real : Parts → Bool
-is_real p = nat_lt 0 (length p.whole + length p.fraction) && is_power p.power
+-- an exponent, or nothing: e or E, an optional sign, and digits
+pub data Power : List ℕ → Bool → List ℕ → Type 0 where
+  NoPower : Power [] false []
+  APower : (mark : ℕ) (sign digits : List ℕ) (minus : Bool) → is_power_mark mark ≡ true → Sign sign minus → are_digits digits ≡ true → Power (mark ∷ (sign ++ digits)) minus digits
 
--- a mantissa of at most 30 digits, and an exponent of at most 4
+-- digits with a point among, before or behind them and perhaps an exponent, or an integer with an exponent
+pub record IsReal (run : List ℕ) (parts : Parts) : Type 0 where
+  pub sign : List ℕ
+  pub point : List ℕ
+  pub exponent : List ℕ
+  pub joined : run ≡ sign ++ (parts.whole ++ (point ++ exponent))
+  pub sign_is : Sign sign parts.negative
+  pub whole_is : list_all is_digit parts.whole ≡ true
+  pub point_is : Point point parts.fraction
+  pub exponent_is : Power exponent parts.minus parts.power
+  pub some_digit : 0 < length parts.whole + length parts.fraction
+  pub no_integer : 0 < length point + length exponent
+
+-- at most 30 digits, and 4 in the exponent
 abbrev pub is_short : Parts → Bool
-is_short p = nat_le (length p.whole + length p.fraction) 30 && nat_le (length (power_digits p.power)) 4
+is_short parts = nat_le (length parts.whole + length parts.fraction) 30 && nat_le (length parts.power) 4
 
--- the exact value, rounded once
-abbrev pub real_of : Parts → Option ℤ
-real_of p = decimal_of p.negative (decimal_value (p.whole ++ p.fraction)) (signed (power_minus p.power) (decimal_value (power_digits p.power)) -ℤ pos (length p.fraction))
+-- the raw value: the exact value in 1/65536, rounded once; None where it is out of range
+abbrev pub raw_of : Parts → Option ℤ
+raw_of parts =
+    decimal_of parts.negative (decimal_value (parts.whole ++ parts.fraction)) (signed parts.minus (decimal_value parts.power) -ℤ pos (length parts.fraction))
+
+abbrev pub decimal_numeral : Option ℤ → Numeral
+decimal_numeral None = TooGreat
+decimal_numeral (Some raw) = Decimal raw
+
+abbrev pub real_numeral : Parts → Numeral
+real_numeral parts = if is_short parts then decimal_numeral (raw_of parts) else TooGreat

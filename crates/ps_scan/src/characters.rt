@@ -1,7 +1,7 @@
 //! Kinds of bytes.
-ghost use Rattle.std.specs.Prelude.{◌≡◌, ◌≤◌, ◌+◌, not, drop, length, false};
+ghost use Rattle.std.specs.Prelude.{◌≡◌, ◌≤◌, ◌<◌, ◌||◌, true, ◌+◌, not, drop, length, false};
 ghost use Rattle.std.specs.List.{prefix_len};
-ghost use Rattle.ps_scan.specs.Characters.{is_white, is_line_end, is_regular, white_after};
+ghost use Rattle.ps_scan.specs.Characters.{is_digit, is_letter, is_hex, digit_value, is_white, is_line_end, is_regular, white_after};
 ghost use Rattle.ps_scan.specs.Reading.{blank_len};
 
 pub(crate) fn is_white_space(c: u8) -> bool
@@ -38,6 +38,22 @@ pub(crate) fn is_regular_byte(c: u8) -> bool
             | b'/'
             | b'%'
     )
+}
+
+/// What a digit stands for, and a letter as a digit: `A` or `a` is 10, `Z` or `z` is 35.
+pub(crate) fn value_of_digit(c: u8) -> u8
+    requires { (is_digit c || is_letter c) ≡ true }
+    ensures value { result ≡ digit_value c }
+    ensures bound { result < 36 }
+    ensures hex { is_hex c ≡ true → result < 16 }
+{
+    if c <= b'9' {
+        c - b'0'
+    } else if c <= b'Z' {
+        c - 55
+    } else {
+        c - 87
+    }
 }
 
 /// How many regular bytes stand in front.

@@ -1,10 +1,10 @@
 //! Hexadecimal digits.
 ghost use Rattle.std.specs.Prelude.{◌≡◌, ◌≤◌, ◌<◌, ◌+◌, ◌*◌, ◌/◌, ◌^◌, ◌++◌, length, true, false, Option, Some, None, IfOk};
 ghost use Rattle.std.specs.List.{prefix_len, count_by};
-ghost use Rattle.ps_scan.specs.Characters.{is_hex, hex_value, is_hex_or_white};
+ghost use Rattle.ps_scan.specs.Characters.{is_hex, digit_value, is_hex_or_white};
 ghost use Rattle.ps_scan.specs.Reading.{hex_bytes, hex_len};
 
-use crate::characters::is_white_space;
+use crate::characters::{is_white_space, value_of_digit};
 use crate::token::Bytes;
 use press_fault::Mem;
 use std::alloc::Global;
@@ -13,21 +13,6 @@ pub(crate) fn is_hex_digit(c: u8) -> bool
     ensures { result ≡ is_hex c }
 {
     matches!(c, b'0'..=b'9' | b'A'..=b'F' | b'a'..=b'f')
-}
-
-/// What a hexadecimal digit stands for.
-pub(crate) fn digit_value(c: u8) -> u8
-    requires { is_hex c ≡ true }
-    ensures value { result ≡ hex_value c }
-    ensures bound { result < 16 }
-{
-    if c <= b'9' {
-        c - b'0'
-    } else if c <= b'F' {
-        c - 55
-    } else {
-        c - 87
-    }
 }
 
 pub(crate) fn hex_or_white_len(text: &[u8]) -> usize
@@ -58,9 +43,9 @@ pub(crate) fn bytes_of_hex(alloc: Global, body: &[u8], count: usize) -> Mem<Byte
     for c in body {
         if is_hex_digit(*c) {
             match half {
-                None => half = Some(digit_value(*c)),
+                None => half = Some(value_of_digit(*c)),
                 Some(high) => {
-                    bytes.push(16 * high + digit_value(*c))?;
+                    bytes.push(16 * high + value_of_digit(*c))?;
                     half = None;
                 }
             }

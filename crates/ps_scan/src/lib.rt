@@ -3,8 +3,10 @@
 
 mod characters;
 mod hex;
+mod integers;
 mod laws;
-mod numbers;
+mod numerals;
+mod radix;
 mod reading;
 mod reals;
 mod scanner;
@@ -12,7 +14,7 @@ mod strings;
 mod token;
 
 pub use laws::{only_scanned_is_read, scanned_is_read, tokens_are_within_limits};
-pub use reals::{RealParts, is_real_number, real_parts};
+pub use numerals::Numeral;
 pub use scanner::Scanner;
 pub use strings::{Does, Inside};
 pub use token::{Bytes, ScanFault, Token};

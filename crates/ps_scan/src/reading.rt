@@ -2,15 +2,14 @@
 ghost use Rattle.std.specs.Prelude.{◌≡◌, ◌≤◌, ◌<◌, ◌+◌, ◌∷◌, [], ◌^◌, ◌≢◌, IsTrue, not, drop, length, true, false, IfOk, IfErr, ℕ, take};
 ghost use Rattle.std.specs.List.{prefix_len};
 ghost use Rattle.ps_scan.specs.Characters.{is_regular, begins, is_greater, white_after};
-ghost use Rattle.ps_scan.specs.Numbers.{is_integer};
-ghost use Rattle.ps_scan.specs.Reading.{IsRefusal, reads, and_white, integer, word, read_word, read_literal, read_now, read_slash, named, ended, opened, closed, hex_text, read_hex, read_less, read_greater, read_paren};
+ghost use Rattle.ps_scan.specs.Reading.{IsRefusal, reads, and_white, number, word, read_word, read_literal, read_now, read_slash, named, ended, opened, closed, hex_text, read_hex, read_less, read_greater, read_paren};
 ghost use Rattle.ps_scan.specs.Reading.Reading.{Found};
 ghost use Rattle.ps_scan.specs.declared.token.Token.TheVariants.{Exec, Literal, Now};
 ghost use Rattle.ps_scan.specs.declared.token.ScanFault.TheVariants.{NoMemory};
 
 use crate::characters::{is_regular_byte, regular_len, white_behind};
 use crate::hex::{bytes_of_hex, hex_count, hex_or_white_len};
-use crate::numbers::{int_value, is_integer_run};
+use crate::numerals::{Numeral, numeral_in};
 use crate::strings::{bytes_of_body, measure};
 use crate::token::{ScanFault, Token};
 use press_fault::Name;
@@ -26,17 +25,18 @@ fn with_white(used: usize, text: &[u8]) -> usize
     used + white_behind(rest)
 }
 
-#[tactic(auto, unfolding(crate::specs::Reading::integer))]
-fn take_integer(run: &[u8], text: &[u8]) -> Result<(Token, usize), ScanFault>
-    requires run { is_integer run.now ≡ true }
+/// The token of a number, or the limit that it passes.
+#[tactic(auto, unfolding(crate::specs::Reading::number))]
+fn take_number(numeral: Numeral, run: &[u8], text: &[u8]) -> Result<(Token, usize), ScanFault>
     requires within { length run.now ≤ length text.now }
-    ensures ok { IfOk result (λ found. integer run.now text.now ≡ Found found.0 found.1) }
+    ensures ok { IfOk result (λ found. number numeral run.now text.now ≡ Found found.0 found.1) }
     ensures bound { IfOk result (λ found. found.1 ≤ length text.now) }
-    ensures err { IfErr result (λ fault. IsRefusal fault (integer run.now text.now)) }
+    ensures err { IfErr result (λ fault. IsRefusal fault (number numeral run.now text.now)) }
 {
-    match int_value(run) {
-        Some(value) => Ok((Token::Int(value), with_white(run.len(), text))),
-        None => Err(ScanFault::Limit),
+    match numeral {
+        Numeral::Whole(value) => Ok((Token::Int(value), with_white(run.len(), text))),
+        Numeral::Decimal(value) => Ok((Token::Real(value), with_white(run.len(), text))),
+        Numeral::TooGreat => Err(ScanFault::Limit),
     }
 }
 
@@ -60,10 +60,9 @@ fn take_run(run: &[u8], text: &[u8]) -> Result<(Token, usize), ScanFault>
     ensures bound { IfOk result (λ found. found.1 ≤ length text.now) }
     ensures err { IfErr result (λ fault. IsRefusal fault (word run.now text.now)) }
 {
-    if is_integer_run(run) {
-        take_integer(run, text)
-    } else {
-        take_exec(run, text)
+    match numeral_in(run) {
+        Some(numeral) => take_number(numeral, run, text),
+        None => take_exec(run, text),
     }
 }
 

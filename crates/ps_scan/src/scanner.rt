@@ -6,8 +6,8 @@ ghost use Rattle.ps_scan.specs.Taking.{hex_count, hex_front, behind_hex};
 ghost use Rattle.ps_scan.specs.Outcome.{Outcome, IsWithinLimits, depth_after, IsFaultOf, GivesText};
 ghost use Rattle.ps_scan.specs.Outcome.Outcome.{Gives, BreaksSyntax, PassesLimit};
 
-use crate::characters::blank_front;
-use crate::hex::{digit_value, is_hex_digit};
+use crate::characters::{blank_front, value_of_digit};
+use crate::hex::is_hex_digit;
 use crate::reading::read;
 use crate::token::{ScanFault, Token};
 use std::alloc::Global;
@@ -164,9 +164,9 @@ fn fill_hex(text: &[u8], into: &mut [u8]) -> (usize, usize)
         }
         if is_hex_digit(*c) {
             match half {
-                None => half = Some(digit_value(*c)),
+                None => half = Some(value_of_digit(*c)),
                 Some(high) => {
-                    into[put] = 16 * high + digit_value(*c);
+                    into[put] = 16 * high + value_of_digit(*c);
                     put += 1;
                     half = None;
                 }

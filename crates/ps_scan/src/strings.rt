@@ -1,7 +1,8 @@
 //! Strings in parentheses.
 ghost use Rattle.std.specs.Prelude.{◌≡◌, ◌≤◌, ◌<◌, ◌+◌, ◌-◌, ◌*◌, ◌%◌, ◌^◌, ◌++◌, length, true, false, Option, Some, None, IfOk, IfSome, MatchOption, drop};
 ghost use Rattle.ps_scan.specs.declared.strings.Inside.TheVariants.{Normal};
-ghost use Rattle.ps_scan.specs.Strings.{is_octal, escaped, normal, step, is_small, IsNear, walk};
+ghost use Rattle.ps_scan.specs.Strings.{is_octal, escaped};
+ghost use Rattle.ps_scan.specs.StringReading.{normal, step, is_small, IsNear, walk};
 
 use crate::token::Bytes;
 use press_fault::Mem;
@@ -133,7 +134,7 @@ fn three_octals(v: u8, c: u8) -> u8
 }
 
 /// How long a body is with its last parenthesis, and how many bytes it means; `None` where it doesn't end.
-#[tactic(auto, unfolding(crate::specs::Strings::walk))]
+#[tactic(auto, unfolding(crate::specs::StringReading::walk))]
 pub fn measure(text: &[u8]) -> Option<(usize, usize)>
     requires { length text.now < 2 ^ 63 }
     ensures bound { IfSome result (λ found. found.0 ≤ length text.now) }
@@ -165,7 +166,7 @@ pub fn measure(text: &[u8]) -> Option<(usize, usize)>
 }
 
 /// The bytes that a body means.
-#[tactic(auto, unfolding(crate::specs::Strings::walk))]
+#[tactic(auto, unfolding(crate::specs::StringReading::walk))]
 pub(crate) fn bytes_of_body(alloc: Global, text: &[u8], count: usize) -> Mem<Bytes>
     requires { length text.now < 2 ^ 63 }
     ensures { IfOk result (λ bytes. bytes ≡ (walk Normal 0 text.now).bytes) }
