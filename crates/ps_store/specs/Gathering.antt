@@ -1,12 +1,14 @@
 -- Many objects at once, between strings, arrays and the operands.
 -- Own rule: what moves several objects reads all of them before it writes the first one, and
 -- writes them in order.
-use Rattle.std.specs.Prelude.{ℕ, ◌+◌, List, [], ◌∷◌, map, pos}
+use Rattle.std.specs.Prelude.{ℕ, ◌+◌, ◌*◌, List, [], ◌∷◌, length, map, pos, Option, Some, None, if◌then◌else◌}
 use Rattle.std.specs.List.{range_with_len}
 use Rattle.ps_store.specs.declared.obj.Obj.{Obj}
 use Rattle.ps_store.specs.declared.obj.Obj.TheVariants.{Int}
 use Rattle.ps_store.specs.declared.obj.Span.{Span}
-use Rattle.ps_store.specs.Store.{Kept, element, put_at}
+use Rattle.ps_store.specs.declared.key.Key.{Key}
+use Rattle.ps_store.specs.declared.store.Composite.TheVariants.{Dict}
+use Rattle.ps_store.specs.Store.{Kept, element, put_at, fits, with_new}
 
 -- the elements of an array, or the bytes of a string as integers
 abbrev pub elements : Kept → Span → List Obj
@@ -20,3 +22,8 @@ with_elements s span at (o ∷ items) = with_elements (put_at s span at o) span 
 -- bytes as the integers that stand for them
 abbrev pub integers : List ℕ → List Obj
 integers bytes = map (λ byte. Int (pos byte)) bytes
+
+-- a new dictionary of these entries, and its number; None where a limit refuses it
+abbrev pub with_dict_of : Kept → List (Key × Obj) → Option (ℕ × Kept)
+with_dict_of s entries =
+    if fits s 1 (32 * length entries) then Some (length s.made, with_new s (Dict entries) (32 * length entries)) else None

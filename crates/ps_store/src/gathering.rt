@@ -1,13 +1,14 @@
 //! Many objects at once, between strings, arrays and the operands.
-ghost use Rattle.std.specs.Prelude.{◌≡◌, ◌≤◌, ◌<◌, ◌+◌, ◌^◌, ◌++◌, length, reverse, take, drop, IfOk, OnOk, OnErr, map, vec_len};
+ghost use Rattle.std.specs.Prelude.{◌≡◌, ◌↔◌, [], Some, None, IsErrOf, ◌≤◌, ◌<◌, ◌+◌, ◌^◌, ◌++◌, length, reverse, take, drop, IfOk, OnOk, OnErr, map, vec_len};
 ghost use Rattle.std.specs.List.{range_with_len};
 ghost use Rattle.ps_store.specs.Store.{element};
-ghost use Rattle.ps_store.specs.Gathering.{elements, with_elements, integers};
+ghost use Rattle.ps_store.specs.Gathering.{elements, with_elements, integers, with_dict_of};
 
+use crate::entries::Entries;
 use crate::obj::{Obj, Span};
 use crate::stack::Stack;
-use crate::store::Store;
-use press_fault::Mem;
+use crate::store::{Composite, Store};
+use press_fault::{Grow, Mem};
 use press_nums::Whole;
 
 impl Store {
@@ -77,6 +78,27 @@ impl Store {
             self.put(span, at, *item);
         }
     }
+
+    /// No entries yet, for a dictionary that is to be kept.
+    pub fn new_entries(&self) -> Entries
+        ensures { result ≡ [] }
+    {
+        Entries::new(self.alloc)
+    }
+
+    /// Makes a dictionary of these entries.
+    pub fn new_dict_of(&mut self, entries: Entries) -> Result<u32, Grow>
+        ensures ok { IfOk result (λ dict. with_dict_of self.old entries ≡ Some (dict, self.new)) }
+        ensures limit { IsErrOf result Grow.LimitCheck ↔ (with_dict_of self.old entries ≡ None) }
+        ensures err { OnErr result (self.new ≡ self.old) }
+    {
+        let units = 32 * entries.len() as u64;
+        if !self.fits(1, units) {
+            return Err(Grow::LimitCheck);
+        }
+        let whole = self.add(Composite::Dict(entries), 0, units)?;
+        Ok(whole.id)
+    }
 }
 
 impl Stack {
@@ -84,7 +106,8 @@ impl Stack {
     #[tactic(auto, using(crate::proofs::Gathered::pushed_more))]
     pub fn push_elements(&mut self, store: &Store, span: Span)
         requires { length self.old + span.len ≤ 500 }
-        ensures { self.new ≡ reverse (elements store.now span) ++ self.old }
+        ensures pushed { self.new ≡ reverse (elements store.now span) ++ self.old }
+        ensures len { length self.new ≡ length self.old + span.len }
     {
         for at in 0..span.len {
             let _ = self.push(store.get(span, at));

@@ -1,0 +1,53 @@
+-- Operators on single objects: their types and marks, and the constants
+-- (PostScript Language Reference, third edition, 3.3 Data Types and Objects, and 8.2).
+use Rattle.std.specs.Prelude.{ℕ, Bool, true, false, List, [], ◌∷◌, codes, nat_le, if◌then◌else◌}
+use Rattle.press_fault.specs.declared.names.PsName.TheVariants.{StackUnderflow, TypeCheck, LimitCheck}
+use Rattle.ps_store.specs.declared.obj.Obj.{Obj}
+use Rattle.ps_store.specs.declared.obj.Obj.TheVariants.{Null, Mark, Bool as Boolean, Int, Real, Name, Text, Array, Dict, Oper as Operator, File}
+use Rattle.ps_store.specs.Outcome.{Outcome, Goes, Refuses}
+
+-- the operands with another object in place of the top one
+abbrev pub changed : (Obj → Obj) → List Obj → Outcome (List Obj)
+changed change (o ∷ rest) = Goes (change o ∷ rest)
+changed change [] = Refuses StackUnderflow
+
+-- an object marked as executable: own rule, only names and arrays carry a mark
+abbrev pub executable : Obj → Obj
+executable (Name bytes x) = Name bytes true
+executable (Array p x) = Array p true
+executable o = o
+
+-- an object marked as literal
+abbrev pub literal : Obj → Obj
+literal (Name bytes x) = Name bytes false
+literal (Array p x) = Array p false
+literal o = o
+
+-- whether an object is executable: own rule, an operator always is, and what carries no mark never
+abbrev pub is_executable : Obj → Bool
+is_executable (Name bytes x) = x
+is_executable (Array p x) = x
+is_executable (Operator op) = true
+is_executable o = false
+
+-- the name of an object's type
+abbrev pub type_of : Obj → List ℕ
+type_of (Int n) = codes "integertype"
+type_of (Real n) = codes "realtype"
+type_of (Boolean b) = codes "booleantype"
+type_of (Name bytes x) = codes "nametype"
+type_of (Text p) = codes "stringtype"
+type_of (Array p x) = codes "arraytype"
+type_of (Dict d) = codes "dicttype"
+type_of (Operator op) = codes "operatortype"
+type_of Mark = codes "marktype"
+type_of Null = codes "nulltype"
+type_of File = codes "filetype"
+
+-- an object's mark as an object
+abbrev pub mark_of : Obj → Obj
+mark_of o = Boolean (is_executable o)
+
+-- an object's type as an executable name
+abbrev pub type_name : Obj → Obj
+type_name o = Name (type_of o) true

@@ -1,0 +1,158 @@
+//! New strings, arrays and dictionaries, and what moves many elements of them.
+ghost use Rattle.std.specs.Prelude.{◌≡◌, ◌<◌, length};
+ghost use Rattle.ps_store.specs.Outcome.{Answers};
+ghost use Rattle.ps_data_ops.specs.Composites.{count_of, refusal_of, array_row, string_row, dict_row, gathered_row, close_array_row, aload_row, astore_row};
+
+use press_fault::{Grow, PsName};
+use press_nums::Whole;
+use ps_store::{MAX_OPERANDS, Obj, OpFault, Stack, Store};
+
+/// The count that an integer is, `None` exactly where it is negative.
+fn count_in(n: Whole) -> Option<u32>
+    ensures { result ≡ count_of n }
+{
+    let n = n.get();
+    if 0 <= n { Some(n.unsigned_abs()) } else { None }
+}
+
+/// What refuses an operator where the store could not grow.
+pub(crate) fn refusal(fault: Grow) -> OpFault
+    ensures { result ≡ refusal_of fault }
+{
+    match fault {
+        Grow::LimitCheck => OpFault::Ps(PsName::LimitCheck),
+        Grow::NoMemory => OpFault::NoMemory,
+    }
+}
+
+/// `array`: a new array of nulls.
+pub(crate) fn array(stack: &mut Stack, store: &mut Store) -> Result<(), OpFault>
+    ensures { Answers (array_row stack.old store.old) result (record { operands = stack.old; store = store.old }) (record { operands = stack.new; store = store.new }) }
+{
+    let Some(top) = stack.top() else {
+        return Err(OpFault::Ps(PsName::StackUnderflow));
+    };
+    let Obj::Int(n) = top else {
+        return Err(OpFault::Ps(PsName::TypeCheck));
+    };
+    let Some(len) = count_in(*n) else {
+        return Err(OpFault::Ps(PsName::RangeCheck));
+    };
+    match store.new_array(len) {
+        Ok(span) => {
+            stack.replace(1, Obj::Array(span, false));
+            Ok(())
+        }
+        Err(fault) => Err(refusal(fault)),
+    }
+}
+
+/// `string`: a new string of zero bytes.
+pub(crate) fn string(stack: &mut Stack, store: &mut Store) -> Result<(), OpFault>
+    ensures { Answers (string_row stack.old store.old) result (record { operands = stack.old; store = store.old }) (record { operands = stack.new; store = store.new }) }
+{
+    let Some(top) = stack.top() else {
+        return Err(OpFault::Ps(PsName::StackUnderflow));
+    };
+    let Obj::Int(n) = top else {
+        return Err(OpFault::Ps(PsName::TypeCheck));
+    };
+    let Some(len) = count_in(*n) else {
+        return Err(OpFault::Ps(PsName::RangeCheck));
+    };
+    match store.new_text(len) {
+        Ok(span) => {
+            stack.replace(1, Obj::Text(span));
+            Ok(())
+        }
+        Err(fault) => Err(refusal(fault)),
+    }
+}
+
+/// `dict`: a new empty dictionary, which may grow past the size that is asked.
+pub(crate) fn dict(stack: &mut Stack, store: &mut Store) -> Result<(), OpFault>
+    ensures { Answers (dict_row stack.old store.old) result (record { operands = stack.old; store = store.old }) (record { operands = stack.new; store = store.new }) }
+{
+    let Some(top) = stack.top() else {
+        return Err(OpFault::Ps(PsName::StackUnderflow));
+    };
+    let Obj::Int(n) = top else {
+        return Err(OpFault::Ps(PsName::TypeCheck));
+    };
+    if count_in(*n).is_none() {
+        return Err(OpFault::Ps(PsName::RangeCheck));
+    }
+    match store.new_dict() {
+        Ok(dict) => {
+            stack.replace(1, Obj::Dict(dict));
+            Ok(())
+        }
+        Err(fault) => Err(refusal(fault)),
+    }
+}
+
+/// `]`: a new array of the operands above the topmost mark.
+pub(crate) fn close_array(stack: &mut Stack, store: &mut Store) -> Result<(), OpFault>
+    ensures { Answers (close_array_row stack.old store.old) result (record { operands = stack.old; store = store.old }) (record { operands = stack.new; store = store.new }) }
+{
+    match stack.depth_of_mark() {
+        Some(len) => gather(stack, store, len),
+        None => Err(OpFault::Ps(PsName::UnmatchedMark)),
+    }
+}
+
+/// Makes an array of the top `len` operands, in place of these and the mark below them.
+fn gather(stack: &mut Stack, store: &mut Store, len: usize) -> Result<(), OpFault>
+    requires { len < length stack.old }
+    ensures { Answers (gathered_row len stack.old store.old) result (record { operands = stack.old; store = store.old }) (record { operands = stack.new; store = store.new }) }
+{
+    let _held = stack.len();
+    match store.new_array(len as u32) {
+        Ok(span) => {
+            store.put_operands(span, stack, 0);
+            stack.replace(len + 1, Obj::Array(span, false));
+            Ok(())
+        }
+        Err(fault) => Err(refusal(fault)),
+    }
+}
+
+/// `aload`: the elements of an array, in order, and the array.
+pub(crate) fn aload(stack: &mut Stack, store: &Store) -> Result<(), OpFault>
+    ensures { Answers (aload_row stack.old store.now) result stack.old stack.new }
+{
+    let Some(top) = stack.top() else {
+        return Err(OpFault::Ps(PsName::StackUnderflow));
+    };
+    let Obj::Array(span, mark) = top else {
+        return Err(OpFault::Ps(PsName::TypeCheck));
+    };
+    let (span, is_executable) = (*span, *mark);
+    if stack.len() + span.len as usize > MAX_OPERANDS {
+        return Err(OpFault::Ps(PsName::StackOverflow));
+    }
+    stack.drop_top(1);
+    stack.push_elements(store, span);
+    let _ = stack.push(Obj::Array(span, is_executable));
+    Ok(())
+}
+
+/// `astore`: as many operands as the array has elements become these.
+pub(crate) fn astore(stack: &mut Stack, store: &mut Store) -> Result<(), OpFault>
+    ensures { Answers (astore_row stack.old store.old) result (record { operands = stack.old; store = store.old }) (record { operands = stack.new; store = store.new }) }
+{
+    let Some(top) = stack.top() else {
+        return Err(OpFault::Ps(PsName::StackUnderflow));
+    };
+    let Obj::Array(span, mark) = top else {
+        return Err(OpFault::Ps(PsName::TypeCheck));
+    };
+    let (span, is_executable) = (*span, *mark);
+    let len = span.len as usize;
+    if len + 1 > stack.len() {
+        return Err(OpFault::Ps(PsName::StackUnderflow));
+    }
+    store.put_operands(span, stack, 1);
+    stack.replace(len + 1, Obj::Array(span, is_executable));
+    Ok(())
+}
