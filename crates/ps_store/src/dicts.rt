@@ -152,3 +152,47 @@ fn home_in(items: &[u32], store: &Store, key: &Key) -> Option<u32>
     }
     None
 }
+
+#[cfg(test)]
+mod tests {
+    use super::*;
+    use std::test::Fail;
+
+    #[test]
+    fn a_name_is_found_from_the_top(rt: HostRuntime) -> Result<(), Fail> {
+        let mut store = Store::new(rt.alloc());
+        let mut dicts = Dicts::new(&mut store)?;
+        let name = Name::of(b"n").ok_or("a name")?;
+        let key = Key::Named(name);
+        let upper = store.new_dict()?;
+        assert_eq!(rt; dicts.push(upper), Ok(()));
+        assert_eq!(rt; dicts.find_name(&store, &name).is_some(), false);
+        // From the bottom up: each dictionary that has the name hides those below it.
+        for dict in [SYSTEMDICT, USERDICT, upper] {
+            store.define(dict, key, Obj::Dict(dict))?;
+            assert_eq!(rt;
+                dicts.find_name(&store, &name).copied(),
+                Some(Obj::Dict(dict))
+            );
+            assert_eq!(rt; dicts.home(&store, &key), Some(dict));
+        }
+        Ok(())
+    }
+
+    #[test]
+    fn the_stack_holds_2_to_20(rt: HostRuntime) -> Result<(), Fail> {
+        let mut store = Store::new(rt.alloc());
+        let mut dicts = Dicts::new(&mut store)?;
+        assert_eq!(rt; dicts.pop(), Err(DictStackUnderflow));
+        for n in 2..20 {
+            assert_eq!(rt; dicts.push(n), Ok(()));
+        }
+        assert_eq!(rt; dicts.push(20), Err(DictStackOverflow));
+        for n in (2..20).rev() {
+            assert_eq!(rt; dicts.top(), n);
+            assert_eq!(rt; dicts.pop(), Ok(n));
+        }
+        assert_eq!(rt; (dicts.len(), dicts.top()), (2, USERDICT));
+        Ok(())
+    }
+}

@@ -393,3 +393,31 @@ fn page_name(op: PageOp) -> &'static str
         PageOp::Showpage => "showpage",
     }
 }
+
+#[cfg(test)]
+mod tests {
+    use super::*;
+
+    #[test]
+    fn numbers_are_places_in_the_table(rt: HostRuntime) {
+        let cases = [
+            ("pop", 0),
+            ("<<", 10),
+            ("bitshift", 40),
+            ("true", 41),
+            (">>", 48),
+            ("type", 69),
+            ("stopped", 79),
+            ("quit", 80),
+            ("readhexstring", 84),
+            ("currentgray", 95),
+            ("rectfill", 128),
+            ("erasepage", 135),
+        ];
+        for (name, number) in cases {
+            let named = Oper::built().iter().find(|op| op.name() == name);
+            assert_eq!(rt; named.copied().map(Oper::number), Some(number), "at {name}");
+        }
+        assert_eq!(rt; Oper::built().len(), 92);
+    }
+}

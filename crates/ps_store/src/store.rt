@@ -395,3 +395,198 @@ fn operator_in(c: &Composite, i: usize) -> Option<Oper>
         Composite::Dict(_) => None,
     }
 }
+
+#[cfg(test)]
+mod tests {
+    use super::*;
+    use press_nums::Fix;
+    use std::test::Fail;
+
+    /// What a store is asked to make room for.
+    #[derive(Clone, Copy)]
+    enum Growth {
+        Text(u32),
+        Array(u32),
+        NewEntry,
+        HeldEntry,
+    }
+
+    /// Grows a store with one dictionary of one entry, after so many units were taken.
+    fn grown(alloc: Global, units: u64, growth: Growth) -> Result<(), Grow>
+        requires { units ≤ 268435456 }
+    {
+        let mut store = Store::new(alloc);
+        let dict = store.new_dict()?;
+        store.define(dict, Key::Integer(Whole::of(1)), Obj::Null)?;
+        store.units = units;
+        match growth {
+            Growth::Text(len) => {
+                store.new_text(len)?;
+            }
+            Growth::Array(len) => {
+                store.new_array(len)?;
+            }
+            Growth::NewEntry => store.define(dict, Key::Truth(true), Obj::Null)?,
+            Growth::HeldEntry => store.define(dict, Key::Integer(Whole::of(1)), Obj::Mark)?,
+        }
+        Ok(())
+    }
+
+    #[test]
+    fn limits_stand_one_above_the_last_that_fits(rt: HostRuntime) {
+        let full = Err(Grow::LimitCheck);
+        let cases = [
+            ("the longest string", 0, Growth::Text(65_535), Ok(())),
+            ("a longer string", 0, Growth::Text(65_536), full),
+            ("the longest array", 0, Growth::Array(65_535), Ok(())),
+            ("a longer array", 0, Growth::Array(65_536), full),
+            (
+                "a byte for the last unit",
+                268_435_455,
+                Growth::Text(1),
+                Ok(()),
+            ),
+            (
+                "a byte with no unit left",
+                268_435_456,
+                Growth::Text(1),
+                full,
+            ),
+            (
+                "an empty string takes none",
+                268_435_456,
+                Growth::Text(0),
+                Ok(()),
+            ),
+            (
+                "an element of 16 units",
+                268_435_440,
+                Growth::Array(1),
+                Ok(()),
+            ),
+            (
+                "an element with 15 left",
+                268_435_441,
+                Growth::Array(1),
+                full,
+            ),
+            (
+                "an entry of 32 units",
+                268_435_424,
+                Growth::NewEntry,
+                Ok(()),
+            ),
+            ("an entry with 31 left", 268_435_425, Growth::NewEntry, full),
+            (
+                "a held key takes none",
+                268_435_456,
+                Growth::HeldEntry,
+                Ok(()),
+            ),
+        ];
+        for (name, units, growth, want) in cases {
+            assert_eq!(rt; grown(rt.alloc(), units, growth), want, "at {name}");
+        }
+    }
+
+    #[test]
+    fn a_dictionary_has_65_535_entries(rt: HostRuntime) -> Result<(), Fail> {
+        let mut store = Store::new(rt.alloc());
+        let dict = store.new_dict()?;
+        for n in 0..65_535 {
+            store.define(dict, Key::Integer(Whole::of(n)), Obj::Int(Whole::of(n)))?;
+        }
+        let refused = store.define(dict, Key::Truth(true), Obj::Null);
+        assert_eq!(rt; refused, Err(Grow::LimitCheck));
+        assert_eq!(rt; store.entries(dict), 65_535);
+        store.define(dict, Key::Integer(Whole::of(7)), Obj::Mark)?;
+        assert_eq!(rt; store.entry(dict, 7), (Obj::Int(Whole::of(7)), Obj::Mark));
+        assert!(rt; store.fits(1, 266_338_336) && !store.fits(1, 266_338_337));
+        Ok(())
+    }
+
+    #[test]
+    fn composites_have_one_numbering_and_spans_share(rt: HostRuntime) -> Result<(), Fail> {
+        let mut store = Store::new(rt.alloc());
+        let text = store.new_text_of(b"abcd")?;
+        let dict = store.new_dict()?;
+        let items = [Obj::Mark, Obj::Null];
+        let array = store.new_array_of(&items)?;
+        assert_eq!(rt; (text.id, dict, array.id), (0, 1, 2));
+        let tail = Span {
+            id: 0,
+            start: 2,
+            len: 2,
+        };
+        store.put(tail, 1, Obj::Int(Whole::of(120)));
+        assert_eq!(rt; store.bytes(text), b"abcx".as_slice());
+        store.put(array, 1, Obj::Dict(1));
+        assert_eq!(rt; store.objects(array), [Obj::Mark, Obj::Dict(1)].as_slice());
+        Ok(())
+    }
+
+    fn name_of(bytes: &[u8], is_executable: bool) -> Obj {
+        match Name::of(bytes) {
+            Some(name) => Obj::Name(name, is_executable),
+            None => Obj::Null,
+        }
+    }
+
+    fn real(raw: i64) -> Obj {
+        match Fix::of_raw(raw) {
+            Some(raw) => Obj::Real(raw),
+            None => Obj::Null,
+        }
+    }
+
+    fn whole(n: i32) -> Obj {
+        Obj::Int(Whole::of(n))
+    }
+
+    /// Defines both objects as keys of a new dictionary, and gives the number of its entries and
+    /// the first key.
+    fn keys_of(store: &mut Store, first: &Obj, second: &Obj) -> Option<(u32, Obj)> {
+        let dict = store.new_dict().ok()?;
+        for o in [first, second] {
+            let key = store.key_of(o).ok()?;
+            store.define(dict, key, Obj::Null).ok()?;
+        }
+        Some((store.entries(dict), store.entry(dict, 0).0))
+    }
+
+    #[test]
+    fn keys_are_one_by_value_and_keep_their_kind(rt: HostRuntime) -> Result<(), Fail> {
+        let mut store = Store::new(rt.alloc());
+        let a = Obj::Text(store.new_text_of(b"a")?);
+        let cases = [
+            ("1 and 1.0", whole(1), real(65_536), 1, whole(1)),
+            ("1.0 and 1", real(65_536), whole(1), 1, real(65_536)),
+            ("1 and 0.5", whole(1), real(32_768), 2, whole(1)),
+            ("1 and true", whole(1), Obj::Bool(true), 2, whole(1)),
+            ("a and (a)", name_of(b"a", true), a, 1, name_of(b"a", false)),
+            (
+                "(a) and /A",
+                a,
+                name_of(b"A", false),
+                2,
+                name_of(b"a", false),
+            ),
+        ];
+        for (name, first, second, entries, kept) in cases {
+            let keys = keys_of(&mut store, &first, &second);
+            assert_eq!(rt; keys, Some((entries, kept)), "at {name}");
+        }
+        Ok(())
+    }
+
+    #[test]
+    fn some_objects_are_no_keys(rt: HostRuntime) -> Result<(), Fail> {
+        let mut store = Store::new(rt.alloc());
+        let long = Obj::Text(store.new_text(128)?);
+        let most = Obj::Text(store.new_text(127)?);
+        assert_eq!(rt; store.key_of(&long), Err(KeyFault::TooLong));
+        assert_eq!(rt; store.key_of(&most).is_ok(), true);
+        assert_eq!(rt; store.key_of(&Obj::Null), Err(KeyFault::NotAKey));
+        Ok(())
+    }
+}
