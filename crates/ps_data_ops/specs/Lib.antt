@@ -1,2 +1,5 @@
 pub mod Values
 pub mod Composites
+pub mod Dictionaries
+pub mod Reading
+pub mod Rows

@@ -1,10 +1,11 @@
 -- Operators on single objects: their types and marks, and the constants
 -- (PostScript Language Reference, third edition, 3.3 Data Types and Objects, and 8.2).
-use Rattle.std.specs.Prelude.{ℕ, Bool, true, false, List, [], ◌∷◌, codes, nat_le, if◌then◌else◌}
+use Rattle.std.specs.Prelude.{ℕ, Bool, true, false, List, [], ◌∷◌, codes, length, nat_le, if◌then◌else◌}
 use Rattle.press_fault.specs.declared.names.PsName.TheVariants.{StackUnderflow, TypeCheck, LimitCheck}
 use Rattle.ps_store.specs.declared.obj.Obj.{Obj}
 use Rattle.ps_store.specs.declared.obj.Obj.TheVariants.{Null, Mark, Bool as Boolean, Int, Real, Name, Text, Array, Dict, Oper as Operator, File}
 use Rattle.ps_store.specs.Outcome.{Outcome, Goes, Refuses}
+use Rattle.ps_store.specs.Store.{Kept, bytes_of}
 
 -- the operands with another object in place of the top one
 abbrev pub changed : (Obj → Obj) → List Obj → Outcome (List Obj)
@@ -51,3 +52,9 @@ mark_of o = Boolean (is_executable o)
 -- an object's type as an executable name
 abbrev pub type_name : Obj → Obj
 type_name o = Name (type_of o) true
+
+-- `cvn`: the literal name of a string's bytes, of which there are at most 127
+abbrev pub cvn_row : List Obj → Kept → Outcome (List Obj)
+cvn_row (Text p ∷ rest) s = if nat_le (length (bytes_of s p)) 127 then Goes (Name (bytes_of s p) false ∷ rest) else Refuses LimitCheck
+cvn_row (o ∷ rest) s = Refuses TypeCheck
+cvn_row [] s = Refuses StackUnderflow

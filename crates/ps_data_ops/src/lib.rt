@@ -2,5 +2,12 @@
 #![tactic(auto)]
 
 mod composites;
+mod dictionaries;
+mod elements;
 mod intervals;
+mod pairs;
+mod reading;
+mod rows;
 mod values;
+
+pub use rows::run_data;

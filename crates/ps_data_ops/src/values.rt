@@ -1,10 +1,10 @@
 //! Operators on single objects: their types and marks, and the constants.
 ghost use Rattle.std.specs.Prelude.{◌≡◌, ◌≤◌, length};
 ghost use Rattle.ps_store.specs.Outcome.{Answers, pushed};
-ghost use Rattle.ps_data_ops.specs.Values.{changed, executable, literal, is_executable, mark_of, type_name, type_of};
+ghost use Rattle.ps_data_ops.specs.Values.{changed, executable, literal, is_executable, mark_of, type_name, type_of, cvn_row};
 
 use press_fault::{Name, PsName};
-use ps_store::{Obj, OpFault, Stack};
+use ps_store::{Obj, OpFault, Stack, Store};
 
 /// Pushes an object, as `true`, `null` and `userdict` do.
 pub(crate) fn push(stack: &mut Stack, o: Obj) -> Result<(), OpFault>
@@ -90,6 +90,25 @@ fn type_text(o: &Obj) -> &'static str
         Obj::Mark => "marktype",
         Obj::Null => "nulltype",
         Obj::File => "filetype",
+    }
+}
+
+/// `cvn`: the literal name of a string's bytes.
+pub(crate) fn cvn(stack: &mut Stack, store: &Store) -> Result<(), OpFault>
+    ensures { Answers (cvn_row stack.old store.now) result stack.old stack.new }
+{
+    let Some(top) = stack.top() else {
+        return Err(OpFault::Ps(PsName::StackUnderflow));
+    };
+    let Obj::Text(span) = top else {
+        return Err(OpFault::Ps(PsName::TypeCheck));
+    };
+    match Name::of(store.bytes(*span)) {
+        Some(name) => {
+            stack.replace(1, Obj::Name(name, false));
+            Ok(())
+        }
+        None => Err(OpFault::Ps(PsName::LimitCheck)),
     }
 }
 

@@ -79,6 +79,13 @@ impl Store {
         }
     }
 
+    /// So many zeros, as room for bytes that are to be put into a string.
+    pub fn zeros(&self, len: u32) -> Mem<Vec<u8>>
+        ensures { IfOk result (λ room. vec_len room ≡ len) }
+    {
+        Ok(vec![in self.alloc; 0; len as usize]?)
+    }
+
     /// No entries yet, for a dictionary that is to be kept.
     pub fn new_entries(&self) -> Entries
         ensures { result ≡ [] }

@@ -1,0 +1,100 @@
+//! `>>`: a dictionary of the pairs above a mark.
+ghost use Rattle.std.specs.Prelude.{◌≡◌, ◌≤◌, ◌<◌, [], length, reverse, take, IfOk};
+ghost use Rattle.ps_store.specs.Outcome.{Answers};
+ghost use Rattle.ps_data_ops.specs.Dictionaries.{close_dict_row, closed_row, is_no_key, lacks_key, entered};
+
+use crate::composites::refusal;
+use press_fault::{Mem, PsName};
+use ps_store::{Entries, Key, KeyFault, Obj, OpFault, Stack, Store};
+
+/// `>>`: a new dictionary of the pairs above the topmost mark.
+pub(crate) fn close_dict(stack: &mut Stack, store: &mut Store) -> Result<(), OpFault>
+    ensures { Answers (close_dict_row stack.old store.old) result (record { operands = stack.old; store = store.old }) (record { operands = stack.new; store = store.new }) }
+{
+    match stack.depth_of_mark() {
+        Some(len) => enclose(stack, store, len),
+        None => Err(OpFault::Ps(PsName::UnmatchedMark)),
+    }
+}
+
+/// Makes a dictionary of the top `len` operands, in place of these and the mark below them.
+///
+/// Its entries are put together first, so that a limit refuses them all and leaves the store.
+fn enclose(stack: &mut Stack, store: &mut Store, len: usize) -> Result<(), OpFault>
+    requires { len < length stack.old }
+    ensures { Answers (closed_row len stack.old store.old) result (record { operands = stack.old; store = store.old }) (record { operands = stack.new; store = store.new }) }
+{
+    if lacks_key(stack, store, len) {
+        return Err(OpFault::Ps(PsName::TypeCheck));
+    }
+    if len % 2 == 1 {
+        return Err(OpFault::Ps(PsName::RangeCheck));
+    }
+    let Ok(entries) = entries_of(stack, store, len) else {
+        return Err(OpFault::NoMemory);
+    };
+    let Some(entries) = entries else {
+        return Err(OpFault::Ps(PsName::LimitCheck));
+    };
+    match store.new_dict_of(entries) {
+        Ok(dict) => {
+            stack.replace(len + 1, Obj::Dict(dict));
+            Ok(())
+        }
+        Err(fault) => Err(refusal(fault)),
+    }
+}
+
+/// Whether one of the top `len` operands that stands where a key belongs is none.
+fn lacks_key(stack: &Stack, store: &Store, len: usize) -> bool
+    requires { len ≤ length stack.now }
+    ensures { result ≡ lacks_key store.now (reverse (take len stack.now)) }
+{
+    let mut left = len;
+    while left > 0 {
+        let Some(key) = stack.at(left - 1) else {
+            unreachable!();
+        };
+        if is_no_key(&store.key_of(key)) {
+            return true;
+        }
+        left = left.saturating_sub(2);
+    }
+    false
+}
+
+fn is_no_key(key: &Result<Key, KeyFault>) -> bool
+    ensures { result ≡ is_no_key key.now }
+{
+    match key {
+        Ok(_) => false,
+        Err(KeyFault::TooLong) => false,
+        Err(KeyFault::NotAKey) => true,
+    }
+}
+
+/// The entries of the top `len` operands, keys and values in turn; `None` exactly where a key is a
+/// string of over 127 bytes.
+#[tactic(auto, unfolding(crate::specs::Dictionaries::entered))]
+fn entries_of(stack: &Stack, store: &Store, len: usize) -> Mem<Option<Entries>>
+    requires { len ≤ length stack.now }
+    ensures { IfOk result (λ entries. entries ≡ entered store.now [] (reverse (take len stack.now))) }
+{
+    let _held = stack.len();
+    let mut entries = store.new_entries();
+    let mut left = len;
+    while left > 1 {
+        let Some(key) = stack.at(left - 1) else {
+            unreachable!();
+        };
+        let Some(value) = stack.at(left - 2) else {
+            unreachable!();
+        };
+        let Ok(key) = store.key_of(key) else {
+            return Ok(None);
+        };
+        entries.define(key, *value)?;
+        left -= 2;
+    }
+    Ok(Some(entries))
+}

@@ -1,0 +1,63 @@
+//! The call that does a data operator.
+ghost use Rattle.ps_store.specs.Outcome.{Answers};
+ghost use Rattle.ps_data_ops.specs.Rows.{data_row};
+
+use crate::composites::{aload, array, astore, close_array, dict, string};
+use crate::dictionaries::{begin, currentdict, def, end, known, load, where_};
+use crate::elements::{get, length, put};
+use crate::intervals::{getinterval, putinterval};
+use crate::pairs::close_dict;
+use crate::reading::{readhexstring, readstring};
+use crate::values::{cvlit, cvn, cvx, push, type_, xcheck};
+use ps_scan::Scanner;
+use ps_store::{DataOp, Dicts, Obj, OpFault, SYSTEMDICT, Stack, Store, USERDICT};
+
+/// Does a data operator, exactly as its row says. A refusal leaves the operands, the store, the
+/// dictionary stack and the place in the program as they were.
+#[tactic(auto, using(crate::proofs::Within::answers_within), unfolding(crate::specs::Rows::data_row))]
+pub fn run_data(
+    op: DataOp,
+    stack: &mut Stack,
+    store: &mut Store,
+    dicts: &mut Dicts,
+    file: &mut Scanner,
+) -> Result<(), OpFault>
+    ensures { Answers (data_row op (record { operands = stack.old; store = store.old; dicts = dicts.old; file = file.old })) result
+        (record { operands = stack.old; store = store.old; dicts = dicts.old; file = file.old })
+        (record { operands = stack.new; store = store.new; dicts = dicts.new; file = file.new }) }
+{
+    match op {
+        DataOp::True => push(stack, Obj::Bool(true)),
+        DataOp::False => push(stack, Obj::Bool(false)),
+        DataOp::Null => push(stack, Obj::Null),
+        DataOp::Array => array(stack, store),
+        DataOp::String => string(stack, store),
+        DataOp::Dict => dict(stack, store),
+        DataOp::CloseArray => close_array(stack, store),
+        DataOp::CloseDict => close_dict(stack, store),
+        DataOp::Length => length(stack, store),
+        DataOp::Get => get(stack, store),
+        DataOp::Put => put(stack, store),
+        DataOp::Getinterval => getinterval(stack),
+        DataOp::Putinterval => putinterval(stack, store),
+        DataOp::Aload => aload(stack, store),
+        DataOp::Astore => astore(stack, store),
+        DataOp::Begin => begin(stack, dicts),
+        DataOp::End => end(dicts),
+        DataOp::Def => def(stack, store, dicts),
+        DataOp::Load => load(stack, store, dicts),
+        DataOp::Known => known(stack, store),
+        DataOp::Where => where_(stack, store, dicts),
+        DataOp::Currentdict => currentdict(stack, dicts),
+        DataOp::Systemdict => push(stack, Obj::Dict(SYSTEMDICT)),
+        DataOp::Userdict => push(stack, Obj::Dict(USERDICT)),
+        DataOp::Cvn => cvn(stack, store),
+        DataOp::Cvx => cvx(stack),
+        DataOp::Cvlit => cvlit(stack),
+        DataOp::Xcheck => xcheck(stack),
+        DataOp::Type => type_(stack),
+        DataOp::Currentfile => push(stack, Obj::File),
+        DataOp::Readstring => readstring(stack, store, file),
+        DataOp::Readhexstring => readhexstring(stack, store, file),
+    }
+}
