@@ -1,9 +1,13 @@
--- Matrices and points.
-use Rattle.std.specs.Prelude.{ℤ, pos, ◌+ℤ◌, ◌*ℤ◌, ◌^◌, ◌&&◌, Bool, nat_lt, unsigned_abs, Option, Some, None, if◌then◌else◌}
-use Rattle.press_fault.specs.Plane.{Spot}
+-- Transformation matrices and the points that they map (PostScript Language Reference, third
+-- edition, 4.3 Coordinate Systems and Transformations), each element by its raw value, a count of
+-- 1/65536. Own rule: a point of the page is a whole number of sub-dots, 1/256 of a dot, rounded once,
+-- and a coordinate of 2^31 sub-dots or more is refused.
+use Rattle.std.specs.Prelude.{ℤ, pos, ◌+ℤ◌, ◌-ℤ◌, ◌*ℤ◌, ◌<◌, ◌^◌, ◌&&◌, Bool, nat_lt, unsigned_abs, Option, Some, None, if◌then◌else◌}
 use Rattle.press_nums.specs.Rounding.{div_round}
-use Rattle.press_nums.specs.Fix.{is_fix}
+use Rattle.press_nums.specs.Fix.{IsFix, is_fix}
+use Rattle.press_fault.specs.Plane.{Spot}
 
+-- the matrix [a b c d tx ty]: a point (x, y) goes to (a x + c y + tx, b x + d y + ty)
 pub record Affine : Type 0 where
   pub a : ℤ
   pub b : ℤ
@@ -12,41 +16,62 @@ pub record Affine : Type 0 where
   pub tx : ℤ
   pub ty : ℤ
 
--- a user point in sub-dots
-abbrev pub dots_x : Affine → ℤ → ℤ → ℤ
-dots_x m x y = div_round (m.a *ℤ x +ℤ m.c *ℤ y +ℤ m.tx *ℤ pos 65536) (pos 16777216)
+-- each element is a real number
+pub record IsAffine (m : Affine) : Type 0 where
+  pub a : IsFix m.a
+  pub b : IsFix m.b
+  pub c : IsFix m.c
+  pub d : IsFix m.d
+  pub tx : IsFix m.tx
+  pub ty : IsFix m.ty
 
-abbrev pub dots_y : Affine → ℤ → ℤ → ℤ
-dots_y m x y = div_round (m.b *ℤ x +ℤ m.d *ℤ y +ℤ m.ty *ℤ pos 65536) (pos 16777216)
+-- the matrix, where each element is a real number
+abbrev pub affine_of : Affine → Option Affine
+affine_of m = if is_fix m.a && is_fix m.b && is_fix m.c && is_fix m.d && is_fix m.tx && is_fix m.ty then Some m else None
 
-abbrev pub is_near : ℤ → Bool
-is_near x = nat_lt (unsigned_abs x) (2 ^ 31)
+-- the matrix that moves no point
+abbrev pub identity : Affine
+identity = record { a = pos 65536; b = pos 0; c = pos 0; d = pos 65536; tx = pos 0; ty = pos 0 }
 
--- the point, where it is near enough
-abbrev pub near_spot : ℤ → ℤ → Option Spot
-near_spot x y = if is_near x && is_near y then Some (record { x = x; y = y }) else None
+-- the matrix without its translation
+abbrev pub linear : Affine → Affine
+linear m = record m { tx = pos 0; ty = pos 0 }
 
-abbrev pub dots_of : Affine → ℤ → ℤ → Option Spot
-dots_of m x y = near_spot (dots_x m x y) (dots_y m x y)
+-- the determinant, a count of 1/2^32
+abbrev pub det_of : Affine → ℤ
+det_of m = m.a *ℤ m.d -ℤ m.b *ℤ m.c
 
--- one element of a product of matrices
-abbrev pub row_by_column : ℤ → ℤ → ℤ → ℤ → ℤ → ℤ
-row_by_column p q r s plus = div_round (p *ℤ q +ℤ r *ℤ s +ℤ plus) (pos 65536)
+-- where a matrix puts the user point (x, y), exactly: counts of 1/2^32 of a dot
+abbrev pub exact_x : Affine → ℤ → ℤ → ℤ
+exact_x m x y = m.a *ℤ x +ℤ m.c *ℤ y +ℤ m.tx *ℤ pos 65536
 
--- the matrix, where each element is a Fix
-abbrev pub fix_affine : Affine → Option Affine
-fix_affine m = if is_fix m.a && is_fix m.b && is_fix m.c && is_fix m.d && is_fix m.tx && is_fix m.ty then Some m else None
+abbrev pub exact_y : Affine → ℤ → ℤ → ℤ
+exact_y m x y = m.b *ℤ x +ℤ m.d *ℤ y +ℤ m.ty *ℤ pos 65536
 
--- the first matrix, and then the second
-abbrev pub product : Affine → Affine → Affine
-product m n = record {
-  a = row_by_column m.a n.a m.b n.c (pos 0);
-  b = row_by_column m.a n.b m.b n.d (pos 0);
-  c = row_by_column m.c n.a m.d n.c (pos 0);
-  d = row_by_column m.c n.b m.d n.d (pos 0);
-  tx = row_by_column m.tx n.a m.ty n.c (n.tx *ℤ pos 65536);
-  ty = row_by_column m.tx n.b m.ty n.d (n.ty *ℤ pos 65536);
+-- a point that a path may have: each magnitude is below 2^31 sub-dots
+pub record IsNear (s : Spot) : Type 0 where
+  pub x : unsigned_abs s.x < 2 ^ 31
+  pub y : unsigned_abs s.y < 2 ^ 31
+
+-- the same, as a test
+abbrev pub is_near : Spot → Bool
+is_near s = nat_lt (unsigned_abs s.x) (2 ^ 31) && nat_lt (unsigned_abs s.y) (2 ^ 31)
+
+-- where a matrix puts a user point, in sub-dots
+abbrev pub spot_of : Affine → ℤ → ℤ → Spot
+spot_of m x y = record {
+  x = div_round (exact_x m x y) (pos 16777216);
+  y = div_round (exact_y m x y) (pos 16777216);
 }
 
-abbrev pub concat_of : Affine → Affine → Option Affine
-concat_of m n = fix_affine (product m n)
+-- the point, where a path may have it
+abbrev pub near_spot : Spot → Option Spot
+near_spot s = if is_near s then Some s else None
+
+-- where a matrix puts a user point, in sub-dots, where a path may have it
+abbrev pub dots_of : Affine → ℤ → ℤ → Option Spot
+dots_of m x y = near_spot (spot_of m x y)
+
+-- what a relative step adds to a point: the same without the translation
+abbrev pub step_dots_of : Affine → ℤ → ℤ → Option Spot
+step_dots_of m dx dy = dots_of (linear m) dx dy

@@ -1,2 +1,5 @@
 pub mod Affine
+pub mod Places
+pub mod Product
 pub mod Sine
+pub mod Turn

@@ -1,14 +1,15 @@
-//! Matrices of Fix.
-ghost use Rattle.std.specs.Prelude.{◌≡◌, ◌≤◌, ◌<◌, ◌^◌, ◌*◌, ◌+◌, ℤ, pos, unsigned_abs, ◌+ℤ◌, ◌-ℤ◌, ◌*ℤ◌, IsTrue, is_ok};
-ghost use Rattle.press_nums.specs.Rounding.{div_round};
+//! Matrices and their products.
+ghost use Rattle.std.specs.Prelude.{◌≡◌, ◌≤◌, ◌<◌, ◌^◌, ℤ, pos, unsigned_abs, ◌+ℤ◌, ◌-ℤ◌, ◌*ℤ◌};
 ghost use Rattle.press_nums.specs.Fix.{fix_of};
 ghost use Rattle.std.specs.Result.{result_ok};
-ghost use Rattle.geo_matrix.specs.Affine.{is_near, dots_of, dots_x, dots_y, row_by_column, concat_of};
+ghost use Rattle.geo_matrix.specs.Affine.{identity, det_of};
+ghost use Rattle.geo_matrix.specs.Product.{row_by_column, concat_of};
 
-use press_fault::{LimitCheck, Point, UndefinedResult};
+use press_fault::UndefinedResult;
 use press_nums::{Fix, Wide, fix_from, wide_product};
 use std::marker::Model;
 
+/// The matrix `[a b c d tx ty]`: a point (x, y) goes to (a x + c y + tx, b x + d y + ty).
 #[derive(Clone, Copy, Debug, PartialEq, Eq)]
 pub struct Matrix {
     pub a: Fix,
@@ -29,56 +30,25 @@ impl Model for Matrix {
     ghost inverse = { λ m. record { a = m.a; b = m.b; c = m.c; d = m.d; tx = m.tx; ty = m.ty } };
 }
 
-/// The sum of two products and a number.
-fn sum_of(p: Fix, q: Fix, r: Fix, s: Fix, plus: Wide) -> Wide
-    requires { unsigned_abs plus ≤ 2 ^ 63 }
-    ensures value { result ≡ p *ℤ q +ℤ r *ℤ s +ℤ plus }
-    ensures bound { unsigned_abs result ≤ 2 ^ 96 }
-{
-    wide_product(p, q) + wide_product(r, s) + plus
-}
-
-fn shifted(t: Fix) -> Wide
-    ensures value { result ≡ t *ℤ pos 65536 }
-    ensures bound { unsigned_abs result ≤ 2 ^ 63 }
-{
-    t.wide().times(65536)
-}
-
-fn is_near_wide(x: Wide) -> bool
-    ensures { result ≡ is_near x }
-{
-    x.is_below(Wide::of(0x8000_0000)) && Wide::of(-0x8000_0000).is_below(x)
-}
-
-fn dots(p: Fix, q: Fix, r: Fix, s: Fix, t: Fix) -> Wide
-    ensures { result ≡ div_round (p *ℤ q +ℤ r *ℤ s +ℤ t *ℤ pos 65536) (pos 16777216) }
-{
-    sum_of(p, q, r, s, shifted(t)).div_round(Wide::of(16777216))
-}
-
-/// A user point in sub-dots.
-pub fn to_dots(m: &Matrix, x: Fix, y: Fix) -> Result<Point, LimitCheck>
-    ensures { result_ok result ≡ dots_of m.now x y }
-{
-    let across = dots(m.a, x, m.c, y, m.tx);
-    let down = dots(m.b, x, m.d, y, m.ty);
-    if is_near_wide(across) && is_near_wide(down) {
-        Ok(Point::of_wide(across, down))
-
-    } else {
-        Err(LimitCheck)
+impl Matrix {
+    /// The matrix that moves no point.
+    pub fn identity() -> Matrix
+        ensures { result ≡ identity }
+    {
+        Matrix {
+            a: Fix::of_int(1),
+            b: Fix::of_int(0),
+            c: Fix::of_int(0),
+            d: Fix::of_int(1),
+            tx: Fix::of_int(0),
+            ty: Fix::of_int(0),
+        }
     }
 }
 
-fn element(p: Fix, q: Fix, r: Fix, s: Fix, plus: Wide) -> Option<Fix>
-    requires { unsigned_abs plus ≤ 2 ^ 63 }
-    ensures { result ≡ fix_of (row_by_column p q r s plus) }
-{
-    fix_from(sum_of(p, q, r, s, plus).div_round(Wide::of(65536)))
-}
-
-/// `first`, and then `then`.
+/// The matrix that does `first` and then `then`, refused exactly where an element is out of range.
+///
+/// Each element is one sum of products, rounded once. The operator `concat` puts its matrix first.
 pub fn concat(first: &Matrix, then: &Matrix) -> Result<Matrix, UndefinedResult>
     ensures { result_ok result ≡ concat_of first.now then.now }
 {
@@ -101,4 +71,43 @@ pub fn concat(first: &Matrix, then: &Matrix) -> Result<Matrix, UndefinedResult>
         return Err(UndefinedResult);
     };
     Ok(Matrix { a, b, c, d, tx, ty })
+}
+
+/// The determinant, a count of 1/2^32.
+pub fn det(m: &Matrix) -> i128
+    ensures { result ≡ det_of m.now }
+{
+    wide_det(m).to_i128()
+}
+
+/// The determinant as a number to compute with.
+pub(crate) fn wide_det(m: &Matrix) -> Wide
+    ensures value { result ≡ det_of m.now }
+    ensures bound { unsigned_abs result ≤ 2 ^ 95 }
+{
+    wide_product(m.a, m.d) - wide_product(m.b, m.c)
+}
+
+fn element(p: Fix, q: Fix, r: Fix, s: Fix, plus: Wide) -> Option<Fix>
+    requires { unsigned_abs plus ≤ 2 ^ 63 }
+    ensures { result ≡ fix_of (row_by_column p q r s plus) }
+{
+    fix_from(sum_of(p, q, r, s, plus).div_round(Wide::of(65536)))
+}
+
+/// The sum of two products and a number.
+pub(crate) fn sum_of(p: Fix, q: Fix, r: Fix, s: Fix, plus: Wide) -> Wide
+    requires { unsigned_abs plus ≤ 2 ^ 63 }
+    ensures value { result ≡ p *ℤ q +ℤ r *ℤ s +ℤ plus }
+    ensures bound { unsigned_abs result ≤ 2 ^ 96 }
+{
+    wide_product(p, q) + wide_product(r, s) + plus
+}
+
+/// A translation among products of two real numbers.
+pub(crate) fn shifted(t: Fix) -> Wide
+    ensures value { result ≡ t *ℤ pos 65536 }
+    ensures bound { unsigned_abs result ≤ 2 ^ 63 }
+{
+    t.wide().times(65536)
 }

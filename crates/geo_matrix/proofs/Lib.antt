@@ -1,0 +1,2 @@
+pub mod SineLemmas
+pub mod ProductLemmas
