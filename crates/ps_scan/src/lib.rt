@@ -18,6 +18,8 @@ mod reading;
 mod reals;
 mod scanner;
 mod strings;
+#[cfg(test)]
+mod tests;
 mod token;
 mod words;
 
