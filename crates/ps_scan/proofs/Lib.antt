@@ -7,3 +7,4 @@ pub mod Bodies
 pub mod Digits
 pub mod Decimals
 pub mod Bounds
+pub mod Consumed

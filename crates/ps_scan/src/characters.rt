@@ -4,18 +4,21 @@ ghost use Rattle.std.specs.List.{prefix_len};
 ghost use Rattle.ps_scan.specs.Characters.{is_digit, is_letter, is_hex, digit_value, is_white, is_line_end, is_regular, white_after};
 ghost use Rattle.ps_scan.specs.Reading.{blank_len};
 
+/// Whether a byte is white space.
 pub(crate) fn is_white_space(c: u8) -> bool
     ensures { result ≡ is_white c }
 {
     matches!(c, 0 | 9 | 10 | 12 | 13 | 32)
 }
 
+/// Whether a byte ends a comment.
 pub(crate) fn ends_line(c: u8) -> bool
     ensures { result ≡ is_line_end c }
 {
     matches!(c, 10 | 12 | 13)
 }
 
+/// Whether a byte is neither white space nor a delimiter.
 #[tactic(auto, unfolding(crate::specs::Characters::is_regular))]
 pub(crate) fn is_regular_byte(c: u8) -> bool
     ensures { result ≡ is_regular c }

@@ -8,14 +8,14 @@ ghost use Rattle.ps_scan.specs.Outcome.Outcome.{Gives, BreaksSyntax, PassesLimit
 
 use crate::characters::{blank_front, value_of_digit};
 use crate::hex::is_hex_digit;
-use crate::reading::read;
-use crate::token::{ScanFault, Token};
+use crate::reading::front_token;
+use crate::token::{FrontToken, ScanFault, Token};
 use std::alloc::Global;
 use std::marker::Model;
 
 /// The token at the front of a text, and how many bytes it takes.
 #[tactic(auto, unfolding(crate::specs::Reading::scanned))]
-fn scan(alloc: Global, depth: u32, text: &[u8]) -> Result<(Token, usize), ScanFault>
+fn scan(alloc: Global, depth: u32, text: &[u8]) -> FrontToken
     requires { length text.now < 2 ^ 63 }
     ensures ok { IfOk result (λ found. scanned depth text.now ≡ Gives found.0 (drop found.1 text.now)) }
     ensures bound { IfOk result (λ found. found.1 ≤ length text.now) }
@@ -24,7 +24,7 @@ fn scan(alloc: Global, depth: u32, text: &[u8]) -> Result<(Token, usize), ScanFa
 {
     let blank = blank_front(text);
     let (_, start) = text.split_at(blank);
-    match read(alloc, depth, start) {
+    match front_token(alloc, depth, start) {
         Ok((token, used)) => Ok((token, blank + used)),
         Err(fault) => Err(fault),
     }

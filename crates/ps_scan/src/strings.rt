@@ -1,37 +1,49 @@
 //! Strings in parentheses.
-ghost use Rattle.std.specs.Prelude.{◌≡◌, ◌≤◌, ◌<◌, ◌+◌, ◌-◌, ◌*◌, ◌%◌, ◌^◌, ◌++◌, length, true, false, Option, Some, None, IfOk, IfSome, MatchOption, drop};
+ghost use Rattle.std.specs.Prelude.{◌≡◌, ◌≤◌, ◌<◌, ◌+◌, ◌-◌, ◌*◌, ◌%◌, ◌^◌, ◌++◌, length, true, false, Option, Some, None, IfOk, IfErr, IfSome, MatchOption, drop};
 ghost use Rattle.ps_scan.specs.declared.strings.Inside.TheVariants.{Normal};
 ghost use Rattle.ps_scan.specs.Strings.{is_octal, escaped};
+ghost use Rattle.ps_scan.specs.Reading.{IsRefusal, read_paren};
+ghost use Rattle.ps_scan.specs.Reading.Reading.{Found};
 ghost use Rattle.ps_scan.specs.StringReading.{normal, step, is_small, IsNear, walk};
 
-use crate::token::Bytes;
+use crate::token::{Bytes, FrontToken, ScanFault, TEXT_LIMIT, Token};
 use press_fault::Mem;
 use std::alloc::Global;
 
-/// Where a reader stands in a body.
+/// Where a reader stands in the body of a string.
 #[derive(Clone, Copy, Debug, PartialEq, Eq)]
 pub enum Inside {
+    /// The next byte has its usual meaning.
     Normal,
+    /// Behind a carriage return that ended a line: a line feed goes with it.
     Return,
+    /// Behind a backslash.
     Escape,
+    /// Behind a backslash and one octal digit, with its value.
     One(u8),
+    /// Behind a backslash and two octal digits, with their value.
     Two(u8),
 }
 
-/// What a byte does.
+/// What a byte of a body does. The number is that of the inner parentheses then open.
 #[derive(Clone, Copy, Debug, PartialEq, Eq)]
 pub enum Does {
+    /// It is the parenthesis that ends the string.
     Ends,
+    /// It gives a byte.
     Goes(Inside, usize, u8),
+    /// It gives none.
     Waits(Inside, usize),
 }
 
+/// Whether a byte is an octal digit.
 fn is_octal_digit(c: u8) -> bool
     ensures { result ≡ is_octal c }
 {
     48 <= c && c <= 55
 }
 
+/// What a byte behind a backslash stands for.
 fn escaped_byte(c: u8) -> u8
     ensures { result ≡ escaped c }
 {
@@ -68,6 +80,7 @@ fn normal_byte(inner: usize, c: u8) -> Does
     }
 }
 
+/// What a byte behind a backslash does.
 fn escape_byte(inner: usize, c: u8) -> Does
     requires { inner < 2 ^ 63 }
     ensures value { result ≡ (step Inside.Escape inner c).does }
@@ -84,6 +97,7 @@ fn escape_byte(inner: usize, c: u8) -> Does
     }
 }
 
+/// What the next byte does: first the octal escape that it ends, if it ends one.
 fn step_byte(inside: Inside, inner: usize, c: u8) -> (Option<u8>, Does)
     requires inner { inner < 2 ^ 63 }
     requires small { is_small inside }
@@ -118,6 +132,7 @@ fn step_byte(inside: Inside, inner: usize, c: u8) -> (Option<u8>, Does)
     }
 }
 
+/// The value of two octal digits, of which the first is worth `v`.
 fn two_octals(v: u8, c: u8) -> u8
     requires v { v < 8 }
     requires c { is_octal c ≡ true }
@@ -126,6 +141,7 @@ fn two_octals(v: u8, c: u8) -> u8
     8 * v + (c - 48)
 }
 
+/// The value of three octal digits modulo 256, of which the first two are worth `v`.
 fn three_octals(v: u8, c: u8) -> u8
     requires { is_octal c ≡ true }
     ensures { result ≡ (8 * v + (c - 48)) % 256 }
@@ -135,7 +151,7 @@ fn three_octals(v: u8, c: u8) -> u8
 
 /// How long a body is with its last parenthesis, and how many bytes it means; `None` where it doesn't end.
 #[tactic(auto, unfolding(crate::specs::StringReading::walk))]
-pub fn measure(text: &[u8]) -> Option<(usize, usize)>
+fn measure(text: &[u8]) -> Option<(usize, usize)>
     requires { length text.now < 2 ^ 63 }
     ensures bound { IfSome result (λ found. found.0 ≤ length text.now) }
     ensures value { MatchOption result ((walk Normal 0 text.now).closed ≡ false)
@@ -167,7 +183,7 @@ pub fn measure(text: &[u8]) -> Option<(usize, usize)>
 
 /// The bytes that a body means.
 #[tactic(auto, unfolding(crate::specs::StringReading::walk))]
-pub(crate) fn bytes_of_body(alloc: Global, text: &[u8], count: usize) -> Mem<Bytes>
+fn bytes_of_body(alloc: Global, text: &[u8], count: usize) -> Mem<Bytes>
     requires { length text.now < 2 ^ 63 }
     ensures { IfOk result (λ bytes. bytes ≡ (walk Normal 0 text.now).bytes) }
 {
@@ -193,4 +209,27 @@ pub(crate) fn bytes_of_body(alloc: Global, text: &[u8], count: usize) -> Mem<Byt
         }
     }
     Ok(bytes)
+}
+
+/// A string in parentheses; `text` is what stands behind the first of them. The whole string is read
+/// before its length is asked, and its length before memory is.
+#[tactic(auto, unfolding(crate::specs::Reading::read_paren))]
+pub(crate) fn paren_token(alloc: Global, text: &[u8]) -> FrontToken
+    requires { length text.now < 2 ^ 63 }
+    ensures ok { IfOk result (λ found. read_paren text.now ≡ Found found.0 found.1) }
+    ensures bound { IfOk result (λ found. found.1 ≤ 1 + length text.now) }
+    ensures err { IfErr result (λ fault. IsRefusal fault (read_paren text.now)) }
+{
+    match measure(text) {
+        None => Err(ScanFault::Syntax),
+        Some((used, count)) => {
+            if count > TEXT_LIMIT {
+                return Err(ScanFault::Limit);
+            }
+            match bytes_of_body(alloc, text, count) {
+                Ok(bytes) => Ok((Token::Text(bytes), 1 + used)),
+                Err(_) => Err(ScanFault::NoMemory),
+            }
+        }
+    }
 }

@@ -95,3 +95,9 @@ pub enum ScanFault {
     /// Out of memory for a string's bytes.
     NoMemory,
 }
+
+/// The token at the front of a text and how many bytes it takes, or why there is none.
+pub(crate) type FrontToken = Result<(Token, usize), ScanFault>;
+
+/// The most bytes of a string.
+pub(crate) const TEXT_LIMIT: usize = 65535;
