@@ -75,7 +75,11 @@ impl Line {
 fn shown(byte: u8) -> u8
     ensures { result ≡ printable byte }
 {
-    if 33 <= byte && byte <= 126 { byte } else { b'?' }
+    if 33 <= byte && byte <= 126 {
+        byte
+    } else {
+        b'?'
+    }
 }
 
 fn status_line(status: &Status, names: &[Name]) -> Line

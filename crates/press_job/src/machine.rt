@@ -6,8 +6,8 @@ ghost use Rattle.press_job.specs.Turn.{after, IsFairEvent};
 
 use crate::lexing::next_word;
 use crate::painting::{Painter, Turn};
-use press_fault::{Mem, Status};
 use page_model::Page;
+use press_fault::{Mem, Status};
 use std::alloc::Global;
 use std::marker::Model;
 
