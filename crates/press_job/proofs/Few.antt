@@ -1,8 +1,8 @@
 -- A program shows at most as many pages as it has bytes.
-use Rattle.std.proofs.Common.{◌≡◌, ◌≤◌, ◌+◌, ap, refl, ℕ, suc, Bool, true, false, List, [], ◌∷◌, length, arith}
+use Rattle.std.proofs.Common.{◌≤◌, ℕ, suc, List, [], ◌∷◌, length, arith}
 use Rattle.press_job.specs.Text.{is_white, pieces, put_front, without_empty, words_of}
 use Rattle.press_job.specs.Meaning.{Meaning}
-use Rattle.press_job.specs.Language.{State, Step, Goes, Shows, Refuses, step, and_then, run, meaning_of, opening}
+use Rattle.press_job.specs.Language.{State, Step, Goes, Shows, Refuses, step, and_then, run, opening}
 use Rattle.press_job.proofs.Lexed.{by_bool}
 
 one_at_most : (taken : Step) (rest : State → Meaning) (n : ℕ) → ((s : State) → length (rest s).pages ≤ n) → length (and_then taken rest).pages ≤ suc n

@@ -1,5 +1,5 @@
 -- What one call of `send` wrote, whatever it answered.
-use Rattle.std.proofs.Common.{◌≡◌, ◌≤◌, ◌∙◌, ap, sym, ℕ, List, Option, Result, Ok, Err, OnOk, OnErr, take, length, arith}
+use Rattle.std.proofs.Common.{◌≡◌, ◌∙◌, ap, sym, ℕ, List, Option, Result, Ok, Err, OnOk, OnErr, take, length, arith}
 use Rattle.std.proofs.Math.Seq.{take-length}
 use Rattle.press_ports.specs.Causes.{with_piece, WritesFront, WritesProperFront}
 

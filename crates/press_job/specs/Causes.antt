@@ -1,8 +1,7 @@
 -- What a status tells of the inputs, whatever the shelf tells.
-use Rattle.std.specs.Prelude.{◌≡◌, ◌≤◌, ◌+◌, ℕ, Option, List}
+use Rattle.std.specs.Prelude.{◌≡◌, ◌≤◌, ◌+◌, ℕ}
 use Rattle.press_fault.specs.declared.outcome.Status.{Status}
 use Rattle.press_fault.specs.declared.outcome.Status.TheVariants.{Usage, ReadFault, TooLong}
-use Rattle.press_fault.specs.declared.outcome.Which.{Which}
 
 -- the words or an input were refused
 abbrev pub IsRefusal : Status → Type 0

@@ -8,13 +8,12 @@ use Rattle.press_fault.specs.Plane.{Spot, Channels}
 use Rattle.press_fault.specs.declared.names.PsName.TheVariants.{StackUnderflow, StackOverflow, Undefined, LimitCheck}
 use Rattle.press_fault.specs.declared.outcome.Status.{Status}
 use Rattle.press_fault.specs.declared.outcome.Status.TheVariants.{Done, Ps}
-use Rattle.page_model.specs.Marking.{Marking}
+use Rattle.page_model.specs.Marking.{Marking, Flatly}
+use Rattle.page_model.specs.Page.{Sheet}
 use Rattle.page_model.specs.declared.shape.Rule.TheVariants.{Nonzero}
 use Rattle.page_model.specs.declared.shape.Shape.TheVariants.{Poly}
 use Rattle.page_model.specs.declared.mark.Ink.TheVariants.{Plain}
-use Rattle.page_model.specs.declared.mark.Paint.TheVariants.{Flat}
 use Rattle.press_job.specs.Text.{number_of, words_of}
-use Rattle.press_job.specs.Pages.{ShownPage}
 use Rattle.press_job.specs.Meaning.{Meaning, ends, shows}
 
 -- an integer: an optional minus, and one to six digits
@@ -39,7 +38,7 @@ opening width height = record { width = width; height = height; operands = []; c
 -- what one word does: the program goes on, shows a page and goes on, or ends
 pub data Step : Type 0 where
   Goes : State → Step
-  Shows : ShownPage → State → Step
+  Shows : Sheet → State → Step
   Refuses : Status → Step
 
 -- a corner of a rectangle on a page of so many points down, in sub-dots (256 a point, y downwards)
@@ -55,7 +54,7 @@ rectangle height colour x y w h =
       rule = Nonzero;
       shapes = Poly (ring_of height x y w h ∷ []) ∷ [];
       clip = [];
-      paint = Flat (Plain colour);
+      paint = Flatly (Plain colour);
     }
 
 -- 255 for an operand of 1 or more, else 0
@@ -79,7 +78,7 @@ fill_rectangle s operands = Refuses (Ps StackUnderflow (codes "rectfill"))
 -- showpage gives the page and erases it; the colour is black again, and the operands stay
 abbrev pub show_page : State → Step
 show_page s =
-    Shows (record { width = s.width; height = s.height; marks = s.marks })
+    Shows (record { width = s.width; height = s.height; sources = 0; marks = s.marks })
     (record { width = s.width; height = s.height; operands = s.operands; colour = black; marks = [] })
 
 abbrev pub named : State → List ℕ → Step
