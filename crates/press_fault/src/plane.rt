@@ -4,7 +4,7 @@ ghost use Rattle.press_fault.specs.Plane.{IsWithin};
 use press_nums::Wide;
 use std::marker::Model;
 
-/// A point of the page, in sub-dots (1/256 dot).
+/// A point of the page, in sub-dots (1/256 of a dot), y downwards. Each coordinate's magnitude is below 2^44.
 #[derive(Clone, Copy, Debug, PartialEq, Eq)]
 pub struct Point {
     pub x: i64,
@@ -24,6 +24,7 @@ impl Model for Point {
 }
 
 impl Point {
+    /// The point of two coordinates in sub-dots.
     pub fn new(x: i64, y: i64) -> Point
         requires x { IsWithin x }
         requires y { IsWithin y }
@@ -32,6 +33,7 @@ impl Point {
         Point { x, y }
     }
 
+    /// The point of two coordinates in sub-dots.
     pub fn of_wide(x: Wide, y: Wide) -> Point
         requires x { IsWithin x }
         requires y { IsWithin y }
@@ -43,6 +45,7 @@ impl Point {
         }
     }
 
+    /// The x coordinate, in sub-dots, as a number to count with.
     pub fn wide_x(self) -> Wide
         ensures value { result ≡ self.x }
         ensures bound { IsWithin result }
@@ -50,6 +53,7 @@ impl Point {
         Wide::of(self.x)
     }
 
+    /// The y coordinate, in sub-dots, as a number to count with.
     pub fn wide_y(self) -> Wide
         ensures value { result ≡ self.y }
         ensures bound { IsWithin result }
@@ -78,6 +82,7 @@ impl Model for Code {
 }
 
 impl Code {
+    /// The code of red, green and blue.
     pub fn rgb(red: u8, green: u8, blue: u8) -> Code
         ensures { result ≡ record { n = 3; c = red ∷ green ∷ blue ∷ 0 ∷ [] } }
     {
@@ -87,6 +92,7 @@ impl Code {
         }
     }
 
+    /// The code of a gray, 0 for black.
     pub fn gray(value: u8) -> Code
         ensures { result ≡ record { n = 1; c = value ∷ 0 ∷ 0 ∷ 0 ∷ [] } }
     {

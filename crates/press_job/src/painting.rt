@@ -3,12 +3,13 @@ ghost use Rattle.std.specs.Prelude.{◌≡◌, ◌<◌, ◌≤◌, ◌∷◌, []
 ghost use Rattle.std.specs.Option.{option_map};
 ghost use Rattle.press_job.specs.Text.{number_of};
 ghost use Rattle.press_fault.specs.Plane.{IsWithin};
-ghost use Rattle.press_job.specs.Meaning.{integer_of, corner, ring_of, rectangle, full_or_none, opening, push, named, set_colour, fill_rectangle, show_page, step};
-ghost use Rattle.press_job.specs.Turn.{step_of, ShowsPlain};
+ghost use Rattle.press_job.specs.Language.{integer_of, corner, ring_of, rectangle, full_or_none, opening, push, named, set_colour, fill_rectangle, show_page, step};
+ghost use Rattle.press_job.specs.Painted.{IsPageSize};
+ghost use Rattle.press_job.specs.Turn.{step_of, IsFair};
 
 use crate::lexing::number;
 use crate::operands::Operands;
-use page_model::{Clip, Ink, Mark, Marks, Paint, Ring, Rings, Rule, Shape, Shapes};
+use page_model::{Clip, Ink, Mark, Marks, Page, Paint, Ring, Rings, Rule, Shape, Shapes};
 use press_fault::{Code, Mem, Name, Point, PsName, Status};
 use press_nums::Wide;
 use std::alloc::Global;
@@ -101,15 +102,19 @@ fn full_or_nothing(v: Wide) -> u8
 /// What a word did.
 #[derive(Drop)]
 pub(crate) enum Turn {
+    /// The program goes on.
     Went,
-    Shown(Marks),
+    /// It shows a page, and goes on.
+    Shown(Page),
+    /// It ends with an error of its own.
     Refused(Status),
 }
 
-/// The state of a program: its operands, its colour, and the marks of the page so far.
+/// The state of a program: the size of its pages in points, its operands, its colour, and the marks of the page so far.
 #[derive(Drop)]
 pub(crate) struct Painter {
     alloc: Global,
+    width: u32,
     height: u32,
     operands: Operands,
     colour: Code,
@@ -118,22 +123,23 @@ pub(crate) struct Painter {
 
 impl Model for Painter {
     ghost use Rattle.press_job.specs.Painted.{IsPainted};
-    ghost use Rattle.press_job.specs.Meaning.{State};
+    ghost use Rattle.press_job.specs.Language.{State};
 
     ghost Value = { State };
 
-    ghost view = { λ p. record { height = p.height; operands = p.operands; colour = p.colour; marks = p.marks } };
+    ghost view = { λ p. record { width = p.width; height = p.height; operands = p.operands; colour = p.colour; marks = p.marks } };
 
-    ghost invariant = { λ p. IsPainted p.height p.marks };
+    ghost invariant = { λ p. IsPainted p.width p.height p.marks };
 }
 
 impl Painter {
-    pub(crate) fn new(alloc: Global, height: u32) -> Self
-        requires { height ≤ 16384 }
-        ensures { result ≡ opening height }
+    pub(crate) fn new(alloc: Global, width: u32, height: u32) -> Self
+        requires { IsPageSize width height }
+        ensures { result ≡ opening width height }
     {
         Painter {
             alloc,
+            width,
             height,
             operands: Operands::new(alloc),
             colour: Code::gray(0),
@@ -142,10 +148,10 @@ impl Painter {
     }
 
     /// Does what a word says.
-    #[tactic(auto, unfolding(crate::specs::Meaning::step))]
+    #[tactic(auto, unfolding(crate::specs::Language::step))]
     pub(crate) fn execute(&mut self, word: &[u8]) -> Mem<Turn>
         ensures step { IfOk result (λ turn. step self.old word.now ≡ step_of turn self.new) }
-        ensures plain { IfOk result ShowsPlain }
+        ensures fair { IfOk result IsFair }
     {
         match integer(word) {
             Some(n) => self.push(n),
@@ -156,7 +162,7 @@ impl Painter {
     fn push(&mut self, n: Wide) -> Mem<Turn>
         requires { unsigned_abs n < 1000000 }
         ensures step { IfOk result (λ turn. push self.old n ≡ step_of turn self.new) }
-        ensures plain { IfOk result ShowsPlain }
+        ensures fair { IfOk result IsFair }
     {
         if self.operands.len() >= 500 {
             return Ok(refused(PsName::StackOverflow, b"push"));
@@ -167,7 +173,7 @@ impl Painter {
 
     fn run_named(&mut self, word: &[u8]) -> Mem<Turn>
         ensures step { IfOk result (λ turn. named self.old word.now ≡ step_of turn self.new) }
-        ensures plain { IfOk result ShowsPlain }
+        ensures fair { IfOk result IsFair }
     {
         if word == b"setrgbcolor".as_slice() {
             Ok(self.set_colour())
@@ -182,7 +188,7 @@ impl Painter {
 
     fn set_colour(&mut self) -> Turn
         ensures step { set_colour self.old self.old.operands ≡ step_of result self.new }
-        ensures plain { ShowsPlain result }
+        ensures fair { IsFair result }
     {
         let (Some(blue), Some(green), Some(red)) = (
             self.operands.pop(),
@@ -201,7 +207,7 @@ impl Painter {
 
     fn fill_rectangle(&mut self) -> Mem<Turn>
         ensures step { IfOk result (λ turn. fill_rectangle self.old self.old.operands ≡ step_of turn self.new) }
-        ensures plain { IfOk result ShowsPlain }
+        ensures fair { IfOk result IsFair }
     {
         let (Some(h), Some(w), Some(y), Some(x)) = (
             self.operands.pop(),
@@ -221,11 +227,16 @@ impl Painter {
 
     fn show_page(&mut self) -> Turn
         ensures step { show_page self.old ≡ step_of result self.new }
-        ensures plain { ShowsPlain result }
+        ensures fair { IsFair result }
     {
         self.colour = Code::gray(0);
         let marks = mem::replace(&mut self.marks, Marks::new(self.alloc));
-        Turn::Shown(marks)
+        Turn::Shown(Page {
+            width: self.width,
+            height: self.height,
+            sources: 0,
+            marks,
+        })
     }
 }
 

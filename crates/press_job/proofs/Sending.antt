@@ -1,0 +1,10 @@
+-- What one call of `send` wrote, whatever it answered.
+use Rattle.std.proofs.Common.{◌≡◌, ◌∙◌, ap, sym, ℕ, List, Option, Result, Ok, Err, OnOk, OnErr, take, length, arith}
+use Rattle.std.proofs.Math.Seq.{take-length}
+use Rattle.press_ports.specs.Causes.{with_piece, WritesFront, WritesProperFront}
+
+pub front_of_send : {A B : Type 0} (answer : Result A B) (old new : Option (List ℕ)) (piece sent : List ℕ) → sent ≡ piece → OnOk answer (new ≡ with_piece old sent) → OnErr answer (WritesProperFront old new sent) → WritesFront old new piece
+front_of_send (Ok _) old new piece sent is ok err =
+    (length piece, omega arith, ok ∙ ap (with_piece old) (is ∙ sym (take-length piece)))
+front_of_send (Err _) old new piece sent is ok err =
+    (err.0, (let less = err.1 in let same = ap length is in omega (arith, less, same)), err.2 ∙ ap (λ p. with_piece old (take err.0 p)) is)

@@ -1,0 +1,24 @@
+-- What a status tells of the inputs, whatever the shelf tells.
+use Rattle.std.specs.Prelude.{◌≡◌, ◌≤◌, ◌+◌, ℕ}
+use Rattle.press_fault.specs.declared.outcome.Status.{Status}
+use Rattle.press_fault.specs.declared.outcome.Status.TheVariants.{Usage, ReadFault, TooLong}
+
+-- the words or an input were refused
+abbrev pub IsRefusal : Status → Type 0
+IsRefusal Usage = Unit {0}
+IsRefusal (ReadFault which) = Unit {0}
+IsRefusal (TooLong which) = Unit {0}
+IsRefusal status = ⊥
+
+-- an input wasn't had
+abbrev pub IsInputRefusal : Status → Type 0
+IsInputRefusal (ReadFault which) = Unit {0}
+IsInputRefusal (TooLong which) = Unit {0}
+IsInputRefusal status = ⊥
+
+-- How often the shelf was asked: never where the words are refused, else at most once for each input; and where an input is
+-- refused, exactly as often as its place among the inputs says. The program is the only input.
+pub record AsksInOrder (status : Status) (before now : ℕ) : Type 0 where
+  pub none : status ≡ Usage → now ≡ before
+  pub most : now ≤ before + 1
+  pub place : IsInputRefusal status → now ≡ before + 1

@@ -1,0 +1,177 @@
+//! The line on standard error that goes with a status.
+ghost use Rattle.std.specs.Prelude.{◌≡◌, ◌≤◌, ◌+◌, ◌++◌, [], map, length, codes, unwrap_or, slice_get};
+ghost use Rattle.std.specs.Fmt.{decimal};
+ghost use Rattle.press_fault.specs.Names.{text_of};
+ghost use Rattle.press_ports.specs.Causes.{Rose, with_piece, WritesFront};
+ghost use Rattle.press_job.specs.Lines.{line_of, which_text, printable};
+
+use arrayvec::ArrayVec;
+use itoa::Buffer;
+use press_fault::{Name, PsName, Status, Which};
+use press_ports::{Sink, send};
+use std::marker::Model;
+
+/// A line of at most 512 bytes, held in itself.
+#[derive(Drop)]
+struct Line {
+    bytes: ArrayVec<u8, 512>,
+}
+
+impl Model for Line {
+    ghost use Rattle.std.specs.Prelude.{List, ℕ};
+
+    ghost Value = { List ℕ };
+
+    ghost view = { λ line. line.bytes.items };
+}
+
+impl Line {
+    fn new() -> Line
+        ensures { result ≡ [] }
+    {
+        Line {
+            bytes: ArrayVec::new(),
+        }
+    }
+
+    fn of(text: &[u8]) -> Line
+        requires { length text.now ≤ 256 }
+        ensures { result ≡ text.now }
+    {
+        let mut line = Line::new();
+        line.add(text);
+        line
+    }
+
+    fn add(&mut self, piece: &[u8])
+        requires { length self.old + length piece.now ≤ 512 }
+        ensures text { self.new ≡ self.old ++ piece.now }
+        ensures len { length self.new ≡ length self.old + length piece.now }
+    {
+        match self.bytes.try_extend_from_slice(piece) {
+            Ok(()) => {}
+            Err(_) => unreachable!(),
+        }
+    }
+
+    /// Adds a command, with a question mark for each byte that doesn't print.
+    fn add_printable(&mut self, command: &[u8])
+        requires { length self.old + length command.now ≤ 512 }
+        ensures text { self.new ≡ self.old ++ map printable command.now }
+        ensures len { length self.new ≡ length self.old + length command.now }
+    {
+        for byte in command {
+            self.bytes.push(shown(*byte));
+        }
+    }
+
+    fn bytes(&self) -> &[u8]
+        ensures { result.now ≡ self.now }
+    {
+        self.bytes.as_slice()
+    }
+}
+
+fn shown(byte: u8) -> u8
+    ensures { result ≡ printable byte }
+{
+    if 33 <= byte && byte <= 126 {
+        byte
+    } else {
+        b'?'
+    }
+}
+
+fn status_line(status: &Status, names: &[Name]) -> Line
+    ensures { result ≡ line_of names.now status.now }
+{
+    match status {
+        Status::Done => Line::new(),
+        Status::Ps { name, command } => error_line(*name, command),
+        Status::Usage => Line::of(b"render: usage: render [options] PROGRAM [NAME=FILE ...]\n"),
+        Status::ReadFault { which } => {
+            input_line(b"render: cannot read ", which_bytes(which, names), b"\n")
+        }
+        Status::WriteFault => Line::of(b"render: cannot write output\n"),
+        Status::Profile { which, code } => profile_line(which_bytes(which, names), *code),
+        Status::NoMemory => Line::of(b"render: out of memory\n"),
+        Status::TooLong { which } => {
+            input_line(b"render: ", which_bytes(which, names), b" is too long\n")
+        }
+    }
+}
+
+fn error_line(name: PsName, command: &Name) -> Line
+    ensures { result ≡ codes "render: " ++ (text_of name ++ (codes " in " ++ (map printable command.now ++ codes "\n"))) }
+{
+    let mut line = Line::of(b"render: ");
+    line.add(name.text().as_bytes());
+    line.add(b" in ");
+    line.add_printable(command.bytes());
+    line.add(b"\n");
+    line
+}
+
+fn input_line(before: &[u8], which: &[u8], after: &[u8]) -> Line
+    requires before { length before.now ≤ 64 }
+    requires which { length which.now ≤ 127 }
+    requires after { length after.now ≤ 64 }
+    ensures { result ≡ before.now ++ (which.now ++ after.now) }
+{
+    let mut line = Line::of(before);
+    line.add(which);
+    line.add(after);
+    line
+}
+
+fn profile_line(which: &[u8], code: u8) -> Line
+    requires { length which.now ≤ 127 }
+    ensures { result ≡ codes "render: profile " ++ (which.now ++ (codes ": fault " ++ (decimal code ++ codes "\n"))) }
+{
+    let mut number = Buffer::new();
+    let mut line = Line::of(b"render: profile ");
+    line.add(which);
+    line.add(b": fault ");
+    line.add(number.format(code).as_bytes());
+    line.add(b"\n");
+    line
+}
+
+/// An input as it is printed.
+fn which_bytes<'a>(which: &Which, names: &'a [Name]) -> &'a [u8]
+    ensures text { result.now ≡ which_text names.now which.now }
+    ensures short { length result.now ≤ 127 }
+{
+    match which {
+        Which::Output => b"output",
+        Which::Gray => b"gray",
+        Which::Rgb => b"rgb",
+        Which::Cmyk => b"cmyk",
+        Which::Named(place) => name_at(names, *place),
+        Which::Program => b"program",
+        Which::Inline => b"inline",
+    }
+}
+
+fn name_at(names: &[Name], place: u32) -> &[u8]
+    ensures text { result.now ≡ unwrap_or (slice_get names.now place) [] }
+    ensures short { length result.now ≤ 127 }
+{
+    match names.get(place as usize) {
+        Some(name) => name.bytes(),
+        None => b"",
+    }
+}
+
+/// Writes the line of a status, with `names` as the names of the profiles of the words. Where a write fails the rest of the
+/// line is dropped.
+pub fn tell<E: Sink>(err: &mut E, status: &Status, names: &[Name])
+    ensures front { WritesFront (E.written err.old) (E.written err.new) (line_of names.now status.now) }
+    // All of it, where no write failed.
+    ensures all { (Rose (E.faults err.old) (E.faults err.new) → ⊥) →
+        E.written err.new ≡ with_piece (E.written err.old) (line_of names.now status.now) }
+    ensures later { E.faults err.old ≤ E.faults err.new }
+{
+    let line = status_line(status, names);
+    let _ = send(err, line.bytes());
+}
