@@ -1,8 +1,8 @@
 -- `bind` (PostScript Language Reference, third edition, 3.12.1 The bind Operator): executable names whose value is an
 -- operator are replaced by it, in a procedure and in every procedure that is reached through elements. A literal array
 -- is no procedure. Own rule: a procedure is its composite, start and length, and may be reached from itself.
-use Rattle.std.specs.Prelude.{ℕ, ◌+◌, ◌==◌, ◌&&◌, ◌||◌, Bool, true, List, [], ◌∷◌, Option, Some, None, nat_le, nat_lt, option_and_then, if◌then◌else◌}
-use Rattle.std.specs.List.{Contains, filter_map, flat_map, list_any, range_with_len}
+use Rattle.std.specs.Prelude.{◌≡◌, ℕ, suc, ◌+◌, ◌<◌, ◌==◌, ◌&&◌, ◌||◌, Bool, true, List, [], ◌∷◌, Option, Some, None, nat_le, nat_lt, option_and_then, if◌then◌else◌}
+use Rattle.std.specs.List.{filter_map, flat_map, list_any, range_with_len}
 use Rattle.ps_store.specs.declared.key.Key.TheVariants.{Named}
 use Rattle.ps_store.specs.declared.obj.Obj.{Obj}
 use Rattle.ps_store.specs.declared.obj.Obj.TheVariants.{Name, Array as ArrayOf, Oper as Operator}
@@ -30,14 +30,22 @@ abbrev pub procedure_of : Obj → Option Part
 procedure_of (ArrayOf p true) = Some p
 procedure_of o = None
 
+-- the procedure that is an element of one, at a place
+abbrev pub procedure_at : Kept → Part → ℕ → Option Part
+procedure_at s p at = option_and_then procedure_of (object_at s p at)
+
+-- the procedures that are elements of one, at so many places from one on
+abbrev pub procedures_from : Kept → Part → ℕ → ℕ → List Part
+procedures_from s p at len = filter_map (procedure_at s p) (range_with_len at len)
+
 -- the procedures that are elements of one
 abbrev pub procedures_in : Kept → Part → List Part
-procedures_in s p = filter_map (λ at. option_and_then procedure_of (object_at s p at)) (range_with_len 0 p.len)
+procedures_in s p = procedures_from s p 0 p.len
 
 -- a procedure is reached from one through elements
 pub data Reaches (s : Kept) (p : Part) : Part → Type 0 where
   here : Reaches s p p
-  further : (q r : Part) → Reaches s p q → Contains (procedures_in s q) r → Reaches s p r
+  further : (q r : Part) (at : ℕ) → Reaches s p q → at < q.len → procedure_at s q at ≡ Some r → Reaches s p r
 
 abbrev pub procedures_of : Composite → List Part
 procedures_of (Array items) = filter_map procedure_of items
@@ -50,9 +58,12 @@ procedures_with p s = p ∷ flat_map procedures_of s.made
 abbrev pub same_part : Part → Part → Bool
 same_part a b = (a.id == b.id) && ((a.start == b.start) && (a.len == b.len))
 
+abbrev pub has : List Part → Part → Bool
+has parts p = list_any (same_part p) parts
+
 -- whether one procedure leads to another by way of these alone
 unfoldable pub leads : Kept → List Part → Part → Part → Bool
-leads s [] p q = same_part p q || list_any (same_part q) (procedures_in s p)
+leads s [] p q = same_part p q || has (procedures_in s p) q
 leads s (r ∷ way) p q = leads s way p q || (leads s way p r && leads s way r q)
 
 -- whether a procedure is reached; a law says that this is Reaches
@@ -70,7 +81,7 @@ is_reached_place s p id at = list_any (λ q. reaches s p q && covers q id at) (p
 -- objects, changed at the places that pass a test
 unfoldable pub changed_items : (ℕ → Bool) → (Obj → Obj) → List Obj → List Obj
 changed_items test change [] = []
-changed_items test change (o ∷ items) = (if test 0 then change o else o) ∷ changed_items (λ at. test (at + 1)) change items
+changed_items test change (o ∷ items) = (if test 0 then change o else o) ∷ changed_items (λ at. test (suc at)) change items
 
 abbrev pub changed_in : (ℕ → Bool) → (Obj → Obj) → Composite → Composite
 changed_in test change (Array items) = Array (changed_items test change items)
@@ -78,7 +89,7 @@ changed_in test change c = c
 
 unfoldable pub changed_made : (ℕ → ℕ → Bool) → (Obj → Obj) → List Composite → List Composite
 changed_made test change [] = []
-changed_made test change (c ∷ made) = changed_in (test 0) change c ∷ changed_made (λ id. test (id + 1)) change made
+changed_made test change (c ∷ made) = changed_in (test 0) change c ∷ changed_made (λ id. test (suc id)) change made
 
 -- the store with the elements of arrays changed at the places that pass a test
 abbrev pub changed_store : (ℕ → ℕ → Bool) → (Obj → Obj) → Kept → Kept

@@ -4,3 +4,6 @@ pub mod Levels
 pub mod Course
 pub mod Binding
 pub mod Rows
+pub mod Visits
+pub mod BindSteps
+pub mod BindLaw

@@ -8,7 +8,8 @@ use Rattle.ps_store.specs.declared.obj.Obj.TheVariants.{Bool as Truth, Int, Arra
 use Rattle.ps_store.specs.declared.oper.FlowOp.{FlowOp}
 use Rattle.ps_store.specs.declared.oper.FlowOp.TheVariants as Op
 use Rattle.ps_store.specs.Parts.{Part}
-use Rattle.ps_store.specs.Store.{Kept, element, entries_of, entry_at}
+use Rattle.ps_store.specs.Store.{Kept, entries_of, entry_at}
+use Rattle.ps_store.specs.Gathering.{elements}
 use Rattle.ps_store.specs.Outcome.{Outcome, Goes, Refuses}
 use Rattle.ps_flow.specs.declared.counter.Counter.{Counter}
 use Rattle.ps_flow.specs.declared.level.Level.{Level}
@@ -57,18 +58,14 @@ loop_row (Array p true ∷ rest) levels = opens (Loop p (nothing_of p)) rest lev
 loop_row (a ∷ rest) levels = Refuses TypeCheck
 loop_row [] levels = Refuses StackUnderflow
 
--- the elements of an array, or the bytes of a string
-abbrev pub contents : Kept → Part → List Obj
-contents s p = map (element s p) (range_with_len 0 p.len)
-
 -- the keys and values of a dictionary, in the order in which they were first defined
 abbrev pub keys_and_values : Kept → ℕ → List (Obj × Obj)
 keys_and_values s dict = map (entry_at s dict) (range_with_len 0 (length (entries_of s dict)))
 
 -- a forall keeps the contents at its start, so it sees no later change
 abbrev pub forall_row : List Obj → List Level → Kept → Outcome Course
-forall_row (Array p true ∷ Array a x ∷ rest) levels s = opens (Forall (contents s a) p (nothing_of p)) rest levels None
-forall_row (Array p true ∷ Text t ∷ rest) levels s = opens (Forall (contents s t) p (nothing_of p)) rest levels None
+forall_row (Array p true ∷ Array a x ∷ rest) levels s = opens (Forall (elements s a) p (nothing_of p)) rest levels None
+forall_row (Array p true ∷ Text t ∷ rest) levels s = opens (Forall (elements s t) p (nothing_of p)) rest levels None
 forall_row (Array p true ∷ Dict d ∷ rest) levels s = opens (ForallEntries (keys_and_values s d) p (nothing_of p)) rest levels None
 forall_row (b ∷ a ∷ rest) levels s = Refuses TypeCheck
 forall_row operands levels s = Refuses StackUnderflow

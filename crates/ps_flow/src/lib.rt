@@ -1,12 +1,14 @@
 //! The execution stack, and the operators on it.
 #![tactic(auto)]
 
+mod binding;
 mod contents;
 mod counter;
 mod flow;
 mod level;
 mod pushes;
 mod rows;
+mod visits;
 
 pub use contents::{Objects, Pairs};
 pub use counter::Counter;

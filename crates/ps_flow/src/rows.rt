@@ -1,9 +1,11 @@
 //! The operators on the execution stack.
-ghost use Rattle.std.specs.Prelude.{◌≡◌, ◌≢◌, ◌≤◌, ◌<◌, length, drop, IfOk, None, map};
-ghost use Rattle.ps_flow.specs.Course.{Answers, AnswersAll, opens};
-ghost use Rattle.ps_flow.specs.Rows.{flow_row, exec_row, if_row, ifelse_row, for_row, for_from, repeat_row, loop_row, forall_row, contents, keys_and_values, exit_row, stop_row, stopped_row};
+ghost use Rattle.std.specs.Prelude.{◌≡◌, ◌≤◌, ◌<◌, length, drop, IfOk, None, map};
+ghost use Rattle.ps_store.specs.Gathering.{elements};
+ghost use Rattle.ps_flow.specs.Course.{Answers, AnswersAll, opens, with_levels};
+ghost use Rattle.ps_flow.specs.Rows.{flow_row, exec_row, if_row, ifelse_row, for_row, for_from, repeat_row, loop_row, forall_row, keys_and_values, exit_row, stop_row, stopped_row, bind_row};
 ghost use Rattle.ps_flow.specs.Levels.{nothing_of};
 
+use crate::binding::bind_procedure;
 use crate::contents::{Objects, Pairs};
 use crate::counter::{Counter, raw};
 use crate::flow::Flow;
@@ -28,7 +30,6 @@ pub fn run_flow(
     store: &mut Store,
     dicts: &Dicts,
 ) -> Then
-    requires { op ≢ FlowOp.Bind }
     ensures { AnswersAll (flow_row op stack.old flow.old store.old dicts.now) result (record { operands = stack.old; levels = flow.old; store = store.old }) (record { operands = stack.new; levels = flow.new; store = store.new }) }
 {
     match op {
@@ -42,7 +43,7 @@ pub fn run_flow(
         FlowOp::Exit => exit(stack, flow),
         FlowOp::Stop => stop(stack, flow),
         FlowOp::Stopped => stopped(stack, flow),
-        FlowOp::Bind => unreachable!(),
+        FlowOp::Bind => bind(stack, flow, store, dicts),
     }
 }
 
@@ -219,12 +220,12 @@ fn forall_elements(
     over: Span,
 ) -> Then
     requires { 2 ≤ length stack.old }
-    ensures { Answers (opens (Level.Forall (contents store.now over) body (nothing_of body)) (drop 2 stack.old) flow.old None) result stack.old flow.old stack.new flow.new }
+    ensures { Answers (opens (Level.Forall (elements store.now over) body (nothing_of body)) (drop 2 stack.old) flow.old None) result stack.old flow.old stack.new flow.new }
 {
     if flow.is_full() {
         return Err(OpFault::Ps(PsName::ExecStackOverflow));
     }
-    let Ok(items) = elements(flow.alloc(), store, over) else {
+    let Ok(items) = store.elements(over) else {
         return Err(OpFault::NoMemory);
     };
     let rest = nothing_of(body);
@@ -261,14 +262,6 @@ fn entries(alloc: Global, store: &Store, dict: u32) -> Mem<Vec<(Obj, Obj)>>
     let items = (0..store.entries(dict))
         .map(|at| store.entry(dict, at))
         .collect(alloc)?;
-    Ok(items)
-}
-
-/// The elements of an array, or the bytes of a string as integers, in order.
-fn elements(alloc: Global, store: &Store, span: Span) -> Mem<Vec<Obj>>
-    ensures { IfOk result (λ items. items.items ≡ contents store.now span) }
-{
-    let items = (0..span.len).map(|at| store.get(span, at)).collect(alloc)?;
     Ok(items)
 }
 
@@ -309,5 +302,21 @@ fn stopped(stack: &mut Stack, flow: &mut Flow) -> Then
             };
             open(stack, flow, 1, Level::Stopped(nothing), Some(top))
         }
+    }
+}
+
+/// The operand stays.
+fn bind(stack: &Stack, flow: &Flow, store: &mut Store, dicts: &Dicts) -> Then
+    ensures { AnswersAll (with_levels stack.now flow.now (bind_row stack.now store.old dicts.now)) result (record { operands = stack.now; levels = flow.now; store = store.old }) (record { operands = stack.now; levels = flow.now; store = store.new }) }
+{
+    let Some(top) = stack.top() else {
+        return Err(OpFault::Ps(PsName::StackUnderflow));
+    };
+    match top {
+        Obj::Array(p, true) => match bind_procedure(flow.alloc(), store, dicts, *p) {
+            Ok(()) => Ok(None),
+            Err(_) => Err(OpFault::NoMemory),
+        },
+        _ => Err(OpFault::Ps(PsName::TypeCheck)),
     }
 }

@@ -1,0 +1,25 @@
+-- The steps of bind: one place after the other of one procedure after the other.
+use Rattle.std.specs.Prelude.{ℕ, zero, suc, ◌+◌, List, [], ◌∷◌, Option, Some, None, option_and_then}
+use Rattle.ps_store.specs.declared.obj.Obj.TheVariants.{Oper as Operator}
+use Rattle.ps_store.specs.declared.oper.Oper.{Oper}
+use Rattle.ps_store.specs.Parts.{Part}
+use Rattle.ps_store.specs.Store.{Kept, object_at, put_at}
+use Rattle.ps_flow.specs.Binding.{operator_named}
+
+abbrev pub replaced : Kept → Part → ℕ → Option Oper → Kept
+replaced s p at (Some op) = put_at s p at (Operator op)
+replaced s p at None = s
+
+-- the store once a place of a part is bound
+abbrev pub bound_at : List ℕ → Kept → Part → ℕ → Kept
+bound_at dicts s p at = replaced s p at (option_and_then (operator_named dicts s) (object_at s p at))
+
+-- the store once so many places of a part are bound, from one on
+unfoldable pub bound_from : List ℕ → Kept → Part → ℕ → ℕ → Kept
+bound_from dicts s p at zero = s
+bound_from dicts s p at (suc len) = bound_from dicts (bound_at dicts s p at) p (at + 1) len
+
+-- the store once all places of these parts are bound
+unfoldable pub bound_all : List ℕ → Kept → List Part → Kept
+bound_all dicts s [] = s
+bound_all dicts s (p ∷ parts) = bound_all dicts (bound_from dicts s p 0 p.len) parts

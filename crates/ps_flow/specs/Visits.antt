@@ -1,0 +1,33 @@
+-- The procedures that were reached, each once.
+use Rattle.std.specs.Prelude.{◌≡◌, ℕ, ◌+◌, ◌<◌, Bool, true, false, List, [], ◌∷◌, ◌++◌, Option, Some, None, if◌then◌else◌}
+use Rattle.ps_store.specs.Parts.{Part}
+use Rattle.ps_store.specs.Store.{Kept}
+use Rattle.ps_flow.specs.Binding.{has, procedure_at, Reaches}
+
+-- with one more, where it isn't there
+abbrev pub with_visit : List Part → Part → List Part
+with_visit visits p = if has visits p then visits else visits ++ p ∷ []
+
+abbrev pub with_found : List Part → Option Part → List Part
+with_found visits (Some p) = with_visit visits p
+with_found visits None = visits
+
+-- with each of these in turn
+unfoldable pub with_visits : List Part → List Part → List Part
+with_visits visits [] = visits
+with_visits visits (p ∷ procedures) = with_visits (with_visit visits p) procedures
+
+-- these are the procedures that are reached from one
+pub record AreReached (s : Kept) (p : Part) (visits : List Part) : Type 0 where
+  pub sound : (q : Part) → has visits q ≡ true → Reaches s p q
+  pub first : has visits p ≡ true
+  pub closed : (q r : Part) (at : ℕ) → has visits q ≡ true → at < q.len → procedure_at s q at ≡ Some r → has visits r ≡ true
+
+abbrev pub missing : Bool → ℕ
+missing true = 0
+missing false = 1
+
+-- how many of these weren't reached yet
+unfoldable pub unvisited : List Part → List Part → ℕ
+unvisited visits [] = 0
+unvisited visits (p ∷ procedures) = missing (has visits p) + unvisited visits procedures

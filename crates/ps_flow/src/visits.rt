@@ -1,0 +1,151 @@
+//! The procedures that `bind` has reached.
+ghost use Rattle.std.specs.Prelude.{◌≡◌, [], ◌∷◌, ◌++◌, ◌+◌, ◌<◌, ◌^◌, length, OnOk, IfOk, OnSome, slice_get, Some, None};
+ghost use Rattle.ps_flow.specs.Visits.{with_visit, with_found, with_visits, AreReached};
+ghost use Rattle.ps_flow.specs.Binding.{procedure_of, procedure_at, procedures_in};
+
+use indexmap::IndexSet;
+use press_fault::Mem;
+use ps_store::{Obj, Span, Store};
+use std::alloc::Global;
+use std::marker::Model;
+
+/// A procedure by its composite, its start and its length, to be found again.
+#[derive(Clone, Copy, Debug, PartialEq, Eq, Hash)]
+struct Visit {
+    id: u32,
+    start: u32,
+    len: u32,
+}
+
+impl Model for Visit {
+    ghost use Rattle.std.specs.Prelude.{◌≤◌, ◌+◌};
+    ghost use Rattle.ps_store.specs.Parts.{Part};
+
+    ghost Value = { Part };
+
+    ghost view = { λ v. record { id = v.id; start = v.start; len = v.len } };
+
+    ghost invariant = { λ v. v.start + v.len ≤ 65535 };
+
+    ghost inverse = { λ p. record { id = p.id; start = p.start; len = p.len } };
+}
+
+impl Visit {
+    fn of(p: Span) -> Visit
+        ensures { result ≡ p }
+    {
+        Visit {
+            id: p.id,
+            start: p.start,
+            len: p.len,
+        }
+    }
+
+    fn span(&self) -> Span
+        ensures { result ≡ self.now }
+    {
+        Span {
+            id: self.id,
+            start: self.start,
+            len: self.len,
+        }
+    }
+}
+
+/// The procedures that were reached, each once. Contracts see them as a list, in the order in which they were reached.
+#[derive(Drop)]
+pub(crate) struct Visits {
+    procedures: IndexSet<Visit>,
+}
+
+impl Model for Visits {
+    ghost use Rattle.std.specs.Prelude.{List};
+    ghost use Rattle.ps_store.specs.Parts.{Part};
+
+    ghost Value = { List Part };
+
+    ghost view = { λ v. v.procedures.keys };
+}
+
+impl Visits {
+    pub(crate) fn new(alloc: Global) -> Visits
+        ensures { result ≡ [] }
+    {
+        Visits {
+            procedures: IndexSet::new(alloc),
+        }
+    }
+
+    /// The procedure at a place.
+    pub(crate) fn at(&self, place: usize) -> Option<Span>
+        ensures value { result ≡ slice_get self.now place }
+        ensures bound { OnSome result (place + 1 < 2 ^ 64) }
+    {
+        let _len = self.procedures.len();
+        match self.procedures.get_index(place) {
+            Some(visit) => Some(visit.span()),
+            None => None,
+        }
+    }
+
+    /// Adds a procedure, where it isn't there.
+    pub(crate) fn add(&mut self, p: Span) -> Mem<()>
+        ensures { OnOk result (self.new ≡ with_visit self.old p) }
+    {
+        self.procedures.insert_full(Visit::of(p))?;
+        Ok(())
+    }
+
+    /// Adds what was found, where it is a procedure.
+    fn add_found(&mut self, found: Option<Span>) -> Mem<()>
+        ensures { OnOk result (self.new ≡ with_found self.old found) }
+    {
+        match found {
+            Some(p) => self.add(p),
+            None => Ok(()),
+        }
+    }
+
+    /// Adds the procedures that are elements of one.
+    pub(crate) fn add_all(&mut self, store: &Store, p: Span) -> Mem<()>
+        ensures { OnOk result (self.new ≡ with_visits self.old (procedures_in store.now p)) }
+    {
+        for at in 0..p.len {
+            self.add_found(procedure_at(store, p, at))?;
+        }
+        Ok(())
+    }
+}
+
+/// The procedures that are reached from one through elements, with it.
+pub(crate) fn reached(alloc: Global, store: &Store, p: Span) -> Mem<Visits>
+    ensures { IfOk result (λ visits. AreReached store.now p visits) }
+{
+    let mut visits = Visits::new(alloc);
+    visits.add(p)?;
+    let mut place = 0;
+    while let Some(q) = visits.at(place) {
+        visits.add_all(store, q)?;
+        place += 1;
+    }
+    Ok(visits)
+}
+
+/// The procedure at a place of one, if there is one.
+fn procedure_at(store: &Store, p: Span, at: u32) -> Option<Span>
+    ensures { result ≡ procedure_at store.now p at }
+{
+    match store.at(p, at) {
+        Some(o) => as_procedure(o),
+        None => None,
+    }
+}
+
+fn as_procedure(o: &Obj) -> Option<Span>
+    ensures { result ≡ procedure_of o.now }
+{
+    match o {
+        Obj::Array(p, true) => Some(*p),
+        _ => None,
+    }
+}
