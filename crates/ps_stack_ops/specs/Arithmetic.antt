@@ -5,6 +5,8 @@
 use Rattle.std.specs.Prelude.{ℤ, pos, neg_ℤ, ◌+ℤ◌, ◌-ℤ◌, ◌*ℤ◌, unsigned_abs, int_lt, Option, Some, None, Result, Ok, Err, if◌then◌else◌}
 use Rattle.press_nums.specs.Whole.{whole_of, whole_quotient_of, whole_rest_of}
 use Rattle.press_nums.specs.Fix.{fix_of, product_of, quotient_of, ceiling_of, floor_of, nearest_of, truncation_of, fix_root_of}
+use Rattle.std.specs.Option.{option_map}
+use Rattle.geo_matrix.specs.Sine.{sine_of, cosine_of}
 use Rattle.press_fault.specs.declared.names.PsName.{PsName}
 use Rattle.press_fault.specs.declared.names.PsName.TheVariants.{TypeCheck, RangeCheck}
 use Rattle.ps_store.specs.declared.obj.Obj.{Obj}
@@ -72,14 +74,20 @@ square_root None = Err TypeCheck
 unfoldable pub sqrt_value : Obj → Result Obj PsName
 sqrt_value o = square_root (number_of o)
 
+abbrev pub as_real : Option ℤ → Result Obj PsName
+as_real (Some x) = Ok (Real x)
+as_real None = Err TypeCheck
+
+unfoldable pub sin_value : Obj → Result Obj PsName
+sin_value o = as_real (option_map sine_of (number_of o))
+
+unfoldable pub cos_value : Obj → Result Obj PsName
+cos_value o = as_real (option_map cosine_of (number_of o))
+
 unfoldable pub cvi_value : Obj → Result Obj PsName
 cvi_value (Int n) = Ok (Int n)
 cvi_value (Real x) = Ok (Int (truncation_of x))
 cvi_value o = Err TypeCheck
-
-abbrev pub as_real : Option ℤ → Result Obj PsName
-as_real (Some x) = Ok (Real x)
-as_real None = Err TypeCheck
 
 unfoldable pub cvr_value : Obj → Result Obj PsName
 cvr_value o = as_real (number_of o)

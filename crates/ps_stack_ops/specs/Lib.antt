@@ -1,4 +1,5 @@
 pub mod Numbers
 pub mod Arithmetic
+pub mod Comparison
 pub mod Logic
 pub mod Rows

@@ -2,20 +2,23 @@
 -- Summary: Operand Stack Manipulation Operators). Each row goes by cases on the operands, the top
 -- first; its refusals come in the order of the cases: too few operands, their types, the conditions
 -- of the row, stackoverflow.
-use Rattle.std.specs.Prelude.{ℕ, ℤ, pos, ◌+◌, ◌==◌, List, [], ◌∷◌, ◌++◌, length, take, drop, slice_get, unsigned_abs, int_lt, nat_le, nat_lt, Option, Some, None, Result, Ok, Err, if◌then◌else◌}
+use Rattle.std.specs.Prelude.{ℕ, ℤ, pos, ◌+◌, ◌==◌, List, [], ◌∷◌, ◌++◌, length, take, drop, slice_get, unsigned_abs, int_lt, nat_le, nat_lt, Option, Some, None, Result, if◌then◌else◌}
 use Rattle.std.specs.Int.{int_rem_euclid}
 use Rattle.std.specs.List.{position_from}
 use Rattle.press_fault.specs.declared.names.PsName.{PsName}
-use Rattle.press_fault.specs.declared.names.PsName.TheVariants.{StackUnderflow, StackOverflow, TypeCheck, RangeCheck, UnmatchedMark}
+use Rattle.press_fault.specs.declared.names.PsName.TheVariants.{StackUnderflow, StackOverflow, TypeCheck, RangeCheck, UnmatchedMark, InvalidAccess, LimitCheck}
 use Rattle.ps_store.specs.declared.obj.Obj.{Obj}
-use Rattle.ps_store.specs.declared.obj.Obj.TheVariants.{Int, Mark as AMark}
-use Rattle.ps_store.specs.declared.obj.StackOp.{StackOp}
-use Rattle.ps_store.specs.declared.obj.StackOp.TheVariants.{Pop, Exch, Dup, Clear, Count, Copy, Index, Roll, Mark, OpenArray, OpenDict, Cleartomark, Counttomark, Add, Sub, Mul, Div, Idiv, Mod, Neg, Abs, Ceiling, Floor, Round, Truncate, Sqrt, Sin, Cos, Cvi, Cvr, Eq, Ne, Gt, Ge, Lt, Le, And, Or, Xor, Not, Bitshift}
+use Rattle.ps_store.specs.declared.obj.Obj.TheVariants.{Int, Text, Array, Dict, Mark as AMark}
+use Rattle.ps_store.specs.declared.obj.Span.{Span}
+use Rattle.ps_store.specs.declared.oper.StackOp.{StackOp}
+use Rattle.ps_store.specs.declared.oper.StackOp.TheVariants.{Pop, Exch, Dup, Clear, Count, Copy, Index, Roll, Mark, OpenArray, OpenDict, Cleartomark, Counttomark, Add, Sub, Mul, Div, Idiv, Mod, Neg, Abs, Ceiling, Floor, Round, Truncate, Sqrt, Sin, Cos, Cvi, Cvr, Eq, Ne, Gt, Ge, Lt, Le, And, Or, Xor, Not, Bitshift}
 use Rattle.ps_store.specs.Store.{Kept}
 use Rattle.ps_store.specs.Desk.{Desk}
 use Rattle.ps_store.specs.Stack.{rolled, is_mark}
+use Rattle.ps_store.specs.Copying.{copied_part, copied_entries}
 use Rattle.ps_store.specs.Outcome.{Outcome, Goes, Refuses, pushed, with_value}
-use Rattle.ps_stack_ops.specs.Arithmetic.{add_value, sub_value, mul_value, div_value, idiv_value, mod_value, neg_value, abs_value, ceiling_value, floor_value, round_value, truncate_value, sqrt_value, cvi_value, cvr_value}
+use Rattle.ps_stack_ops.specs.Arithmetic.{add_value, sub_value, mul_value, div_value, idiv_value, mod_value, neg_value, abs_value, ceiling_value, floor_value, round_value, truncate_value, sqrt_value, sin_value, cos_value, cvi_value, cvr_value}
+use Rattle.ps_stack_ops.specs.Comparison.{eq_value, ne_value, gt_value, ge_value, lt_value, le_value}
 use Rattle.ps_stack_ops.specs.Logic.{and_value, or_value, xor_value, not_value, bitshift_value}
 
 -- an operator that works a value out of one operand, or of two
@@ -41,6 +44,11 @@ dup_row [] = Refuses StackUnderflow
 
 abbrev pub count_row : List Obj → Outcome (List Obj)
 count_row operands = pushed (Int (pos (length operands))) operands
+
+-- what an operator does that leaves the store as it is
+abbrev pub on_operands : Kept → Outcome (List Obj) → Outcome Desk
+on_operands store (Goes operands) = Goes (record { operands = operands; store = store })
+on_operands store (Refuses name) = Refuses name
 
 -- the top n of the operands once more
 abbrev pub copied : ℤ → List Obj → Outcome (List Obj)
@@ -72,6 +80,40 @@ roll_row (Int j ∷ Int n ∷ rest) =
 roll_row (b ∷ a ∷ rest) = Refuses TypeCheck
 roll_row operands = Refuses StackUnderflow
 
+-- the first places of a part
+abbrev pub front_of : Span → ℕ → Span
+front_of p n = record { id = p.id; start = p.start; len = n }
+
+-- the store after a copy, if no limit refuses it
+abbrev pub or_limit : Option Kept → Outcome Kept
+or_limit (Some store) = Goes store
+or_limit None = Refuses LimitCheck
+
+-- the store with the entries of one dictionary in another; the first one of all can't be written
+abbrev pub entries_copied : Kept → ℕ → ℕ → Outcome Kept
+entries_copied s from to = if to == 0 then Refuses InvalidAccess else or_limit (copied_entries s from to)
+
+-- operands, with the store of an outcome
+abbrev pub with_operands : List Obj → Outcome Kept → Outcome Desk
+with_operands operands (Goes store) = Goes (record { operands = operands; store = store })
+with_operands operands (Refuses name) = Refuses name
+
+-- copy: of operands by their number, or of the items of one composite into another of its kind
+abbrev pub copy_row : List Obj → Kept → Outcome Desk
+copy_row (Int n ∷ rest) s = on_operands s (copied n rest)
+copy_row (Array b y ∷ Array a x ∷ rest) s =
+    if nat_lt b.len a.len then Refuses RangeCheck
+    else Goes (record { operands = Array (front_of b a.len) y ∷ rest; store = copied_part s a b })
+copy_row (Text b ∷ Text a ∷ rest) s =
+    if nat_lt b.len a.len then Refuses RangeCheck
+    else Goes (record { operands = Text (front_of b a.len) ∷ rest; store = copied_part s a b })
+copy_row (Dict b ∷ Dict a ∷ rest) s = with_operands (Dict b ∷ rest) (entries_copied s a b)
+copy_row (Array b y ∷ []) s = Refuses StackUnderflow
+copy_row (Text b ∷ []) s = Refuses StackUnderflow
+copy_row (Dict b ∷ []) s = Refuses StackUnderflow
+copy_row (b ∷ rest) s = Refuses TypeCheck
+copy_row [] s = Refuses StackUnderflow
+
 abbrev pub cleared : Option ℕ → List Obj → Outcome (List Obj)
 cleared (Some depth) operands = Goes (drop (depth + 1) operands)
 cleared None operands = Refuses UnmatchedMark
@@ -86,18 +128,13 @@ counted None operands = Refuses UnmatchedMark
 abbrev pub counttomark_row : List Obj → Outcome (List Obj)
 counttomark_row operands = counted (position_from is_mark 0 operands) operands
 
--- what an operator does that leaves the store as it is
-abbrev pub on_operands : Kept → Outcome (List Obj) → Outcome Desk
-on_operands store (Goes operands) = Goes (record { operands = operands; store = store })
-on_operands store (Refuses name) = Refuses name
-
 unfoldable pub stack_row : StackOp → List Obj → Kept → Outcome Desk
 stack_row Pop operands store = on_operands store (pop_row operands)
 stack_row Exch operands store = on_operands store (exch_row operands)
 stack_row Dup operands store = on_operands store (dup_row operands)
 stack_row Clear operands store = Goes (record { operands = []; store = store })
 stack_row Count operands store = on_operands store (count_row operands)
-stack_row Copy operands store = on_operands store (dup_row operands)
+stack_row Copy operands store = copy_row operands store
 stack_row Index operands store = on_operands store (index_row operands)
 stack_row Roll operands store = on_operands store (roll_row operands)
 stack_row Mark operands store = on_operands store (pushed AMark operands)
@@ -118,11 +155,18 @@ stack_row Floor operands store = on_operands store (of_one floor_value operands)
 stack_row Round operands store = on_operands store (of_one round_value operands)
 stack_row Truncate operands store = on_operands store (of_one truncate_value operands)
 stack_row Sqrt operands store = on_operands store (of_one sqrt_value operands)
+stack_row Sin operands store = on_operands store (of_one sin_value operands)
+stack_row Cos operands store = on_operands store (of_one cos_value operands)
 stack_row Cvi operands store = on_operands store (of_one cvi_value operands)
 stack_row Cvr operands store = on_operands store (of_one cvr_value operands)
+stack_row Eq operands store = on_operands store (of_two (eq_value store) operands)
+stack_row Ne operands store = on_operands store (of_two (ne_value store) operands)
+stack_row Gt operands store = on_operands store (of_two (gt_value store) operands)
+stack_row Ge operands store = on_operands store (of_two (ge_value store) operands)
+stack_row Lt operands store = on_operands store (of_two (lt_value store) operands)
+stack_row Le operands store = on_operands store (of_two (le_value store) operands)
 stack_row And operands store = on_operands store (of_two and_value operands)
 stack_row Or operands store = on_operands store (of_two or_value operands)
 stack_row Xor operands store = on_operands store (of_two xor_value operands)
 stack_row Not operands store = on_operands store (of_one not_value operands)
 stack_row Bitshift operands store = on_operands store (of_two bitshift_value operands)
-stack_row op operands store = on_operands store (pop_row operands)

@@ -1,12 +1,13 @@
 //! Arithmetic and mathematical operators (PostScript Language Reference, third edition, 8.2).
 use crate::numbers::{Pair, integer, number_in, numbers_in, real};
 use crate::rows::{OneOperand, TwoOperands};
+use geo_matrix::{cosine, sine};
 use press_fault::PsName;
 use press_nums::{
     Wide, fix_add, fix_div, fix_mul, fix_root, fix_sub, whole_add, whole_div, whole_mul, whole_rem,
     whole_sub,
 };
-use ps_store::Obj;
+use ps_store::{Obj, Store};
 
 /// The sum.
 pub(crate) struct Add;
@@ -14,10 +15,10 @@ pub(crate) struct Add;
 impl TwoOperands for Add {
     ghost use Rattle.ps_stack_ops.specs.Arithmetic.{add_value};
 
-    ghost value = { add_value };
+    ghost value = { λ _. add_value };
 
     #[tactic(auto, unfolding(crate::specs::Arithmetic::add_value))]
-    fn value(a: &Obj, b: &Obj) -> Result<Obj, PsName> {
+    fn value(_store: &Store, a: &Obj, b: &Obj) -> Result<Obj, PsName> {
         let Some(numbers) = numbers_in(a, b) else {
             return Err(PsName::TypeCheck);
         };
@@ -34,10 +35,10 @@ pub(crate) struct Sub;
 impl TwoOperands for Sub {
     ghost use Rattle.ps_stack_ops.specs.Arithmetic.{sub_value};
 
-    ghost value = { sub_value };
+    ghost value = { λ _. sub_value };
 
     #[tactic(auto, unfolding(crate::specs::Arithmetic::sub_value))]
-    fn value(a: &Obj, b: &Obj) -> Result<Obj, PsName> {
+    fn value(_store: &Store, a: &Obj, b: &Obj) -> Result<Obj, PsName> {
         let Some(numbers) = numbers_in(a, b) else {
             return Err(PsName::TypeCheck);
         };
@@ -54,10 +55,10 @@ pub(crate) struct Mul;
 impl TwoOperands for Mul {
     ghost use Rattle.ps_stack_ops.specs.Arithmetic.{mul_value};
 
-    ghost value = { mul_value };
+    ghost value = { λ _. mul_value };
 
     #[tactic(auto, unfolding(crate::specs::Arithmetic::mul_value))]
-    fn value(a: &Obj, b: &Obj) -> Result<Obj, PsName> {
+    fn value(_store: &Store, a: &Obj, b: &Obj) -> Result<Obj, PsName> {
         let Some(numbers) = numbers_in(a, b) else {
             return Err(PsName::TypeCheck);
         };
@@ -74,10 +75,10 @@ pub(crate) struct Div;
 impl TwoOperands for Div {
     ghost use Rattle.ps_stack_ops.specs.Arithmetic.{div_value};
 
-    ghost value = { div_value };
+    ghost value = { λ _. div_value };
 
     #[tactic(auto, unfolding(crate::specs::Arithmetic::div_value))]
-    fn value(a: &Obj, b: &Obj) -> Result<Obj, PsName> {
+    fn value(_store: &Store, a: &Obj, b: &Obj) -> Result<Obj, PsName> {
         let (Some(a), Some(b)) = (number_in(a), number_in(b)) else {
             return Err(PsName::TypeCheck);
         };
@@ -91,10 +92,10 @@ pub(crate) struct Idiv;
 impl TwoOperands for Idiv {
     ghost use Rattle.ps_stack_ops.specs.Arithmetic.{idiv_value};
 
-    ghost value = { idiv_value };
+    ghost value = { λ _. idiv_value };
 
     #[tactic(auto, unfolding(crate::specs::Arithmetic::idiv_value))]
-    fn value(a: &Obj, b: &Obj) -> Result<Obj, PsName> {
+    fn value(_store: &Store, a: &Obj, b: &Obj) -> Result<Obj, PsName> {
         match (a, b) {
             (Obj::Int(a), Obj::Int(b)) => integer(whole_div(*a, *b)),
             _ => Err(PsName::TypeCheck),
@@ -108,10 +109,10 @@ pub(crate) struct Mod;
 impl TwoOperands for Mod {
     ghost use Rattle.ps_stack_ops.specs.Arithmetic.{mod_value};
 
-    ghost value = { mod_value };
+    ghost value = { λ _. mod_value };
 
     #[tactic(auto, unfolding(crate::specs::Arithmetic::mod_value))]
-    fn value(a: &Obj, b: &Obj) -> Result<Obj, PsName> {
+    fn value(_store: &Store, a: &Obj, b: &Obj) -> Result<Obj, PsName> {
         match (a, b) {
             (Obj::Int(a), Obj::Int(b)) => integer(whole_rem(*a, *b)),
             _ => Err(PsName::TypeCheck),
@@ -244,6 +245,40 @@ impl OneOperand for Sqrt {
             return Err(PsName::RangeCheck);
         }
         Ok(Obj::Real(fix_root(x)))
+    }
+}
+
+/// The sine of an angle in degrees.
+pub(crate) struct Sin;
+
+impl OneOperand for Sin {
+    ghost use Rattle.ps_stack_ops.specs.Arithmetic.{sin_value};
+
+    ghost value = { sin_value };
+
+    #[tactic(auto, unfolding(crate::specs::Arithmetic::sin_value))]
+    fn value(a: &Obj) -> Result<Obj, PsName> {
+        match number_in(a) {
+            Some(angle) => Ok(Obj::Real(sine(angle))),
+            None => Err(PsName::TypeCheck),
+        }
+    }
+}
+
+/// The cosine of an angle in degrees.
+pub(crate) struct Cos;
+
+impl OneOperand for Cos {
+    ghost use Rattle.ps_stack_ops.specs.Arithmetic.{cos_value};
+
+    ghost value = { cos_value };
+
+    #[tactic(auto, unfolding(crate::specs::Arithmetic::cos_value))]
+    fn value(a: &Obj) -> Result<Obj, PsName> {
+        match number_in(a) {
+            Some(angle) => Ok(Obj::Real(cosine(angle))),
+            None => Err(PsName::TypeCheck),
+        }
     }
 }
 

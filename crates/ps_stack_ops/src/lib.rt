@@ -6,7 +6,11 @@
 #![tactic(auto)]
 
 mod arithmetic;
+mod comparison;
+mod copying;
 mod logic;
 mod manipulation;
 mod numbers;
 mod rows;
+
+pub use rows::run_stack;

@@ -5,7 +5,7 @@ ghost use Rattle.ps_stack_ops.specs.Logic.{shifted};
 use crate::rows::{OneOperand, TwoOperands};
 use press_fault::PsName;
 use press_nums::Whole;
-use ps_store::Obj;
+use ps_store::{Obj, Store};
 
 /// Both, or the bits that are in both.
 pub(crate) struct And;
@@ -13,10 +13,10 @@ pub(crate) struct And;
 impl TwoOperands for And {
     ghost use Rattle.ps_stack_ops.specs.Logic.{and_value};
 
-    ghost value = { and_value };
+    ghost value = { λ _. and_value };
 
     #[tactic(auto, unfolding(crate::specs::Logic::and_value))]
-    fn value(a: &Obj, b: &Obj) -> Result<Obj, PsName> {
+    fn value(_store: &Store, a: &Obj, b: &Obj) -> Result<Obj, PsName> {
         match (a, b) {
             (Obj::Bool(a), Obj::Bool(b)) => Ok(Obj::Bool(*a && *b)),
             (Obj::Int(a), Obj::Int(b)) => Ok(Obj::Int(Whole::of_bits(a.bits() & b.bits()))),
@@ -31,10 +31,10 @@ pub(crate) struct Or;
 impl TwoOperands for Or {
     ghost use Rattle.ps_stack_ops.specs.Logic.{or_value};
 
-    ghost value = { or_value };
+    ghost value = { λ _. or_value };
 
     #[tactic(auto, unfolding(crate::specs::Logic::or_value))]
-    fn value(a: &Obj, b: &Obj) -> Result<Obj, PsName> {
+    fn value(_store: &Store, a: &Obj, b: &Obj) -> Result<Obj, PsName> {
         match (a, b) {
             (Obj::Bool(a), Obj::Bool(b)) => Ok(Obj::Bool(*a || *b)),
             (Obj::Int(a), Obj::Int(b)) => Ok(Obj::Int(Whole::of_bits(a.bits() | b.bits()))),
@@ -49,10 +49,10 @@ pub(crate) struct Xor;
 impl TwoOperands for Xor {
     ghost use Rattle.ps_stack_ops.specs.Logic.{xor_value};
 
-    ghost value = { xor_value };
+    ghost value = { λ _. xor_value };
 
     #[tactic(auto, unfolding(crate::specs::Logic::xor_value))]
-    fn value(a: &Obj, b: &Obj) -> Result<Obj, PsName> {
+    fn value(_store: &Store, a: &Obj, b: &Obj) -> Result<Obj, PsName> {
         match (a, b) {
             (Obj::Bool(a), Obj::Bool(b)) => Ok(Obj::Bool(*a != *b)),
             (Obj::Int(a), Obj::Int(b)) => Ok(Obj::Int(Whole::of_bits(a.bits() ^ b.bits()))),
@@ -85,10 +85,10 @@ pub(crate) struct Bitshift;
 impl TwoOperands for Bitshift {
     ghost use Rattle.ps_stack_ops.specs.Logic.{bitshift_value};
 
-    ghost value = { bitshift_value };
+    ghost value = { λ _. bitshift_value };
 
     #[tactic(auto, unfolding(crate::specs::Logic::bitshift_value))]
-    fn value(a: &Obj, b: &Obj) -> Result<Obj, PsName> {
+    fn value(_store: &Store, a: &Obj, b: &Obj) -> Result<Obj, PsName> {
         match (a, b) {
             (Obj::Int(a), Obj::Int(b)) => Ok(Obj::Int(Whole::of_bits(shifted(a.bits(), *b)))),
             _ => Err(PsName::TypeCheck),

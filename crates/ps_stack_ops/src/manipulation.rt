@@ -1,11 +1,11 @@
 //! Operators that only move operands (PostScript Language Reference, third edition, 8.2).
 ghost use Rattle.std.specs.Prelude.{◌≡◌, ◌∷◌, [], ◌<◌, ◌≤◌, drop, length, unsigned_abs, IfSome};
 ghost use Rattle.ps_store.specs.Outcome.{Answers, pushed, Goes};
-ghost use Rattle.ps_stack_ops.specs.Rows.{pop_row, exch_row, dup_row, count_row, copied, index_row, roll_row, cleartomark_row, counttomark_row};
+ghost use Rattle.ps_stack_ops.specs.Rows.{pop_row, exch_row, dup_row, count_row, index_row, roll_row, cleartomark_row, counttomark_row};
 
 use press_fault::{PsName, StackOverflow};
 use press_nums::Whole;
-use ps_store::{MAX_OPERANDS, Obj, OpFault, Stack};
+use ps_store::{Obj, OpFault, Stack};
 
 /// Puts an object on top.
 pub(crate) fn push(stack: &mut Stack, o: Obj) -> Result<(), OpFault>
@@ -59,27 +59,6 @@ pub(crate) fn count(stack: &mut Stack) -> Result<(), OpFault>
 {
     let len = stack.len();
     push(stack, Obj::Int(Whole::of(len as i32)))
-}
-
-/// `copy` with a number of operands on top.
-pub(crate) fn copy_operands(stack: &mut Stack, n: Whole) -> Result<(), OpFault>
-    requires { stack.old ≡ Obj.Int n ∷ drop 1 stack.old }
-    ensures { Answers (copied n (drop 1 stack.old)) result stack.old stack.new }
-{
-    let n = n.get();
-    let wanted = n.unsigned_abs() as usize;
-    let held = stack.len() - 1;
-    if n < 0 {
-        Err(OpFault::Ps(PsName::RangeCheck))
-    } else if held < wanted {
-        Err(OpFault::Ps(PsName::StackUnderflow))
-    } else if held + wanted > MAX_OPERANDS {
-        Err(OpFault::Ps(PsName::StackOverflow))
-    } else {
-        stack.drop_top(1);
-        stack.copy_top(wanted);
-        Ok(())
-    }
 }
 
 pub(crate) fn index(stack: &mut Stack) -> Result<(), OpFault>

@@ -6,6 +6,7 @@
 #![tactic(auto)]
 
 mod composite;
+mod copying;
 mod dicts;
 mod entries;
 mod fault;

@@ -1,0 +1,19 @@
+-- An operator that leaves the store as it is.
+use Rattle.std.proofs.Common.{List, Result, Ok, Err, ap}
+use Rattle.ps_store.specs.declared.fault.OpFault.{OpFault}
+use Rattle.ps_store.specs.declared.fault.OpFault.TheVariants.{Ps, NoMemory}
+use Rattle.ps_store.specs.declared.obj.Obj.{Obj}
+use Rattle.ps_store.specs.Store.{Kept}
+use Rattle.ps_store.specs.Desk.{Desk}
+use Rattle.ps_store.specs.Outcome.{Outcome, Answers}
+use Rattle.ps_stack_ops.specs.Rows.{on_operands}
+
+desk : Kept → List Obj → Desk
+desk store operands = record { operands = operands; store = store }
+
+-- what it answers on the operands, it answers on operands and store
+pub lifted : (store : Kept) (outcome : Outcome (List Obj)) (r : Result (Unit {0}) OpFault) (old new : List Obj) → Answers outcome r old new → Answers (on_operands store outcome) r (record { operands = old; store = store }) (record { operands = new; store = store })
+unfolding desk
+lifted store outcome (Ok u) old new h = ap (on_operands store) h
+lifted store outcome (Err (Ps name)) old new h = (ap (on_operands store) h.0, ap (desk store) h.1)
+lifted store outcome (Err NoMemory) old new h = tt

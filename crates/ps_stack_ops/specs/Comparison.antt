@@ -1,0 +1,76 @@
+-- Comparison operators (PostScript Language Reference, third edition, 8.2 eq, ne, gt, ge, lt, le).
+-- Numbers are equal by value, names and strings by their bytes, whatever their marks. Own rule:
+-- composites are equal by identity, an array being a part of one, so two empty parts of an array
+-- that start apart are different; objects of other kinds are different from each other.
+use Rattle.std.specs.Prelude.{◌==◌, ◌&&◌, not, Bool, true, false, Result, Ok, Err}
+use Rattle.std.specs.declared.cmp.Ordering.{Ordering}
+use Rattle.std.specs.Ordering.{nat_cmp, int_cmp, int_eq, is_lt, is_le, is_gt, is_ge}
+use Rattle.std.specs.Cmp.Lexicographic.{slice_cmp}
+use Rattle.std.specs.Str.{bytes_eq}
+use Rattle.std.specs.Bool.{beq}
+use Rattle.press_fault.specs.declared.names.PsName.{PsName}
+use Rattle.press_fault.specs.declared.names.PsName.TheVariants.{TypeCheck}
+use Rattle.ps_store.specs.declared.obj.Obj.{Obj}
+use Rattle.ps_store.specs.declared.obj.Obj.TheVariants.{Null, Mark, Bool as Truth, Int, Real, Name, Text, Array, Dict, Oper as Operator, File}
+use Rattle.ps_store.specs.declared.obj.Span.{Span}
+use Rattle.ps_store.specs.declared.oper.Oper.{Oper}
+use Rattle.ps_store.specs.Operators.{number_of}
+use Rattle.ps_store.specs.Store.{Kept, bytes_of}
+use Rattle.ps_stack_ops.specs.Numbers.{raw_of}
+
+-- the same places of the same composite
+abbrev pub same_part : Span → Span → Bool
+same_part a b = a.id == b.id && (a.start == b.start && a.len == b.len)
+
+unfoldable pub same_operator : Oper → Oper → Bool
+same_operator a b = number_of a == number_of b
+
+unfoldable pub equal : Kept → Obj → Obj → Bool
+equal s (Int a) (Int b) = int_eq a b
+equal s (Int a) (Real b) = int_eq (raw_of a) b
+equal s (Real a) (Int b) = int_eq a (raw_of b)
+equal s (Real a) (Real b) = int_eq a b
+equal s (Name a x) (Name b y) = bytes_eq a b
+equal s (Name a x) (Text b) = bytes_eq a (bytes_of s b)
+equal s (Text a) (Name b y) = bytes_eq (bytes_of s a) b
+equal s (Text a) (Text b) = bytes_eq (bytes_of s a) (bytes_of s b)
+equal s (Truth a) (Truth b) = beq a b
+equal s (Array a x) (Array b y) = same_part a b
+equal s (Dict a) (Dict b) = a == b
+equal s (Operator a) (Operator b) = same_operator a b
+equal s Null Null = true
+equal s Mark Mark = true
+equal s File File = true
+equal s a b = false
+
+abbrev pub eq_value : Kept → Obj → Obj → Result Obj PsName
+eq_value s a b = Ok (Truth (equal s a b))
+
+abbrev pub ne_value : Kept → Obj → Obj → Result Obj PsName
+ne_value s a b = Ok (Truth (not (equal s a b)))
+
+-- the order of two numbers by value, or of two strings by the first bytes that differ
+unfoldable pub order_of : Kept → Obj → Obj → Result Ordering PsName
+order_of s (Text a) (Text b) = Ok (slice_cmp nat_cmp (bytes_of s a) (bytes_of s b))
+order_of s (Int a) (Int b) = Ok (int_cmp a b)
+order_of s (Int a) (Real b) = Ok (int_cmp (raw_of a) b)
+order_of s (Real a) (Int b) = Ok (int_cmp a (raw_of b))
+order_of s (Real a) (Real b) = Ok (int_cmp a b)
+order_of s a b = Err TypeCheck
+
+-- a test of an order
+abbrev pub tested : (Ordering → Bool) → Result Ordering PsName → Result Obj PsName
+tested test (Ok order) = Ok (Truth (test order))
+tested test (Err name) = Err name
+
+abbrev pub gt_value : Kept → Obj → Obj → Result Obj PsName
+gt_value s a b = tested is_gt (order_of s a b)
+
+abbrev pub ge_value : Kept → Obj → Obj → Result Obj PsName
+ge_value s a b = tested is_ge (order_of s a b)
+
+abbrev pub lt_value : Kept → Obj → Obj → Result Obj PsName
+lt_value s a b = tested is_lt (order_of s a b)
+
+abbrev pub le_value : Kept → Obj → Obj → Result Obj PsName
+le_value s a b = tested is_le (order_of s a b)
