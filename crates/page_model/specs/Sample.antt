@@ -7,16 +7,16 @@ use Rattle.page_model.specs.Inside.{centre}
 use Rattle.page_model.specs.Image.{Affine, Picture}
 
 -- n / d rounded down, for a positive d
-abbrev pub floor_of : ℤ → ℤ → ℤ
-floor_of n d = int_div_euclid n d
+abbrev pub floor_quotient : ℤ → ℤ → ℤ
+floor_quotient n d = int_div_euclid n d
 
 -- the column of samples that the centre of a dot lies in, also outside the image
 abbrev pub column_at : Affine → ℕ → ℕ → ℤ
-column_at m row col = floor_of (m.a *ℤ pos (2 * col + 1) +ℤ m.c *ℤ pos (2 * row + 1) +ℤ m.tx) m.den
+column_at m row col = floor_quotient (m.a *ℤ pos (2 * col + 1) +ℤ m.c *ℤ pos (2 * row + 1) +ℤ m.tx) m.den
 
 -- the row of samples likewise
 abbrev pub row_at : Affine → ℕ → ℕ → ℤ
-row_at m row col = floor_of (m.b *ℤ pos (2 * col + 1) +ℤ m.d *ℤ pos (2 * row + 1) +ℤ m.ty) m.den
+row_at m row col = floor_quotient (m.b *ℤ pos (2 * col + 1) +ℤ m.d *ℤ pos (2 * row + 1) +ℤ m.ty) m.den
 
 -- a whole number as a place, where it is one of so many
 abbrev pub place_of : ℕ → ℤ → Option ℕ

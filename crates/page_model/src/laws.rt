@@ -8,7 +8,7 @@ ghost use Rattle.page_model.specs.Marking.{Marking};
 ghost use Rattle.page_model.specs.Inside.{centre, turn_of, ring_winding, rings_hold};
 ghost use Rattle.page_model.specs.Cover.{covers_dot};
 ghost use Rattle.page_model.specs.Reach.{reaches, IsReach};
-ghost use Rattle.page_model.specs.Sample.{floor_of};
+ghost use Rattle.page_model.specs.Sample.{floor_quotient};
 ghost use Rattle.page_model.specs.Laws.{IsFloor, GoOneWay};
 ghost use Rattle.page_model.specs.declared.shape.Rule.{Rule};
 
@@ -71,5 +71,5 @@ pub fn shared_edges_paint_once()
 
 /// The quotient of the map from dots to samples is rounded down, also below 0.
 pub fn samples_are_floors()
-    ensures { (n d : ℤ) → pos 0 <ℤ d → IsFloor n d (floor_of n d) }
+    ensures { (n d : ℤ) → pos 0 <ℤ d → IsFloor n d (floor_quotient n d) }
 {}
