@@ -1,7 +1,7 @@
 -- The dictionary stack (PostScript Language Reference, third edition, 3.4 Stacks): the numbers of
 -- dictionaries, the top one first. Own rules: number 0 is systemdict and 1 is userdict, which stay at the
 -- bottom; there are at most 20.
-use Rattle.std.specs.Prelude.{ℕ, Bool, List, [], ◌∷◌, Option, Some, None, find}
+use Rattle.std.specs.Prelude.{ℕ, List, [], ◌∷◌, Option, Some, None, find}
 use Rattle.ps_store.specs.declared.key.Key.{Key}
 use Rattle.ps_store.specs.declared.obj.Obj.{Obj}
 use Rattle.ps_store.specs.Store.{Kept, found, has}

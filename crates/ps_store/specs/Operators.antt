@@ -2,7 +2,7 @@
 -- Own rule: an operator's number is its place, from 0, in the table of all 145 operators of this
 -- interpreter, in the order: operands, arithmetic, values and composites, control, input, graphics state,
 -- matrices, paths, painting, pages. So a number stays when operators are added.
-use Rattle.std.specs.Prelude.{ℕ, List, [], ◌∷◌, codes}
+use Rattle.std.specs.Prelude.{ℕ, Bool, true, ◌&&◌, nat_lt, List, [], ◌∷◌, codes}
 use Rattle.ps_store.specs.declared.oper.StackOp.{StackOp}
 use Rattle.ps_store.specs.declared.oper.DataOp.{DataOp}
 use Rattle.ps_store.specs.declared.oper.FlowOp.{FlowOp}
@@ -262,3 +262,9 @@ operators_built = Stack OnStack.Pop ∷ Stack OnStack.Exch ∷ Stack OnStack.Dup
     Data OnData.Readstring ∷ Data OnData.Readhexstring ∷ Gfx OnGfx.Currentgray ∷
     Gfx OnGfx.Setgray ∷ Gfx OnGfx.Setrgbcolor ∷ Gfx OnGfx.Setcmykcolor ∷
     Gfx OnGfx.Rectfill ∷ Page OnPage.Showpage ∷ Gfx OnGfx.Erasepage ∷ []
+
+-- whether each number is below the next
+abbrev pub is_rising : List ℕ → Bool
+is_rising [] = true
+is_rising (a ∷ []) = true
+is_rising (a ∷ b ∷ rest) = nat_lt a b && is_rising (b ∷ rest)

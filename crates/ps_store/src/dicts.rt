@@ -144,11 +144,11 @@ fn home_in(items: &[u32], store: &Store, key: &Key) -> Option<u32>
     ensures { result ≡ home_of store.now (reverse items.now) key.now }
 {
     let mut left = items;
-    while let Some((dict, below)) = left.split_last() {
+    while let Some((dict, lower)) = left.split_last() {
         if store.has(*dict, key) {
             return Some(*dict);
         }
-        left = below;
+        left = lower;
     }
     None
 }
