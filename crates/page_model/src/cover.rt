@@ -53,7 +53,8 @@ fn is_in_each_region(regions: &[Region], row: u32, col: u32) -> bool
         .all(|region| does_region_hold(region, row, col))
 }
 
-fn does_shape_hold(rule: Rule, shape: &Shape, row: u32, col: u32) -> bool
+/// Whether a shape holds the centre of a dot, by an inside rule if it is a polygon.
+pub fn does_shape_hold(rule: Rule, shape: &Shape, row: u32, col: u32) -> bool
     ensures { result ≡ shape_holds rule row col shape.now }
 {
     match shape {
@@ -80,7 +81,8 @@ fn square(a: Wide) -> Wide
     a * a
 }
 
-fn does_region_hold(region: &Region, row: u32, col: u32) -> bool
+/// Whether a region of a clip holds the centre of a dot.
+pub fn does_region_hold(region: &Region, row: u32, col: u32) -> bool
     ensures { result ≡ region_holds row col region.now }
 {
     do_rings_hold(region.rule, region.rings.items(), row, col)
