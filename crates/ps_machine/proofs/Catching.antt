@@ -1,0 +1,33 @@
+-- Where an error goes, by the levels below the innermost stopped.
+use Rattle.std.proofs.Common.{◌≡◌, ◌∙◌, ◌<◌, ◌+◌, ap, sym, refl, ℕ, Bool, true, false, List, [], ◌∷◌, length, Option, Some, None, arith}
+use Rattle.press_fault.specs.declared.names.PsName.{PsName}
+use Rattle.std.specs.Prelude.{nat_lt, if◌then◌else◌, codes}
+use Rattle.press_fault.specs.declared.names.PsName.TheVariants.{StackOverflow}
+use Rattle.ps_store.specs.declared.obj.Obj.{Obj}
+use Rattle.ps_store.specs.declared.obj.Obj.TheVariants.{Bool as Truth}
+use Rattle.ps_flow.specs.declared.level.Level.{Level}
+use Rattle.ps_flow.specs.Levels.{is_stopped, below_stopped}
+use Rattle.ps_machine.specs.Errors.{Caught, Lands, Falls, caught}
+
+by_bool : {P : Type 0} (b : Bool) → (b ≡ true → P) → (b ≡ false → P) → P
+by_bool true f g = f refl
+by_bool false f g = g refl
+
+-- levels below the innermost stopped, with it on top, catch the same
+abbrev pub caught_above : PsName → List ℕ → Option (List Level) → List Obj → Caught
+caught_above name command None operands = Falls name command
+caught_above name command (Some below) operands =
+    if nat_lt (length operands) 500 then Lands (Truth true ∷ operands) below else caught StackOverflow (codes "stopped") below operands
+
+pub some_caught : (name : PsName) (command : List ℕ) (levels : List Level) (operands : List Obj) → caught name command levels operands ≡ caught_above name command (below_stopped levels) operands
+some_caught name command [] operands = refl
+some_caught name command (level ∷ below) operands = by_bool (is_stopped level)
+    (λ e. rw (e, e) refl)
+    (λ e. rw (e, e) (some_caught name command below operands))
+
+-- fewer levels are left
+pub fewer_levels : (levels below : List Level) → below_stopped levels ≡ Some below → length below < length levels
+fewer_levels [] below h = cc
+fewer_levels (level ∷ rest) below h = by_bool (is_stopped level)
+    (λ e. let g : Some rest ≡ Some below = rw e at h in let same : rest ≡ below = cc in let n : length rest ≡ length below = ap length same in omega arith)
+    (λ e. let g : below_stopped rest ≡ Some below = rw e at h in let less = fewer_levels rest below g in omega arith)

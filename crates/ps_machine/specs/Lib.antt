@@ -1,0 +1,7 @@
+pub mod Nested
+pub mod State
+pub mod Errors
+pub mod Landing
+pub mod Steps
+pub mod Reading
+pub mod Meaning

@@ -1,0 +1,315 @@
+//! The state of the interpreter, and one step of it.
+ghost use Rattle.std.specs.Prelude.{◌≡◌, ◌≤◌, Some, None, IfOk, length, codes, true};
+ghost use Rattle.ps_store.specs.Store.{element};
+ghost use Rattle.ps_store.specs.Dicts.{find_key};
+ghost use Rattle.ps_store.specs.Operators.{name_of, flow_name_of};
+ghost use Rattle.ps_stack_ops.specs.Rows.{stack_row};
+ghost use Rattle.ps_flow.specs.Rows.{flow_row};
+ghost use Rattle.ps_gfx_ops.specs.Rows.{gfx_row};
+ghost use Rattle.ps_machine.specs.State.{State as Snapshot, opening};
+ghost use Rattle.ps_machine.specs.Errors.{failed, caught, pushes, counted, Ends};
+ghost use Rattle.ps_machine.specs.Steps.{execute, execute_value, operate, operate_flow, after_stack, after_gfx, after_flow, after_stop, call, turned, shown};
+ghost use Rattle.ps_machine.specs.Reading.{step, go_on};
+ghost use Rattle.ps_machine.specs.Meaning.{step_of};
+ghost use Rattle.ps_machine.specs.Landing.{IsCaught};
+ghost use Rattle.gfx_state.specs.Graphics.{page_of};
+
+use crate::errors::{catch, command_of, named, timeout};
+use crate::turn::{End, Turn};
+use crate::unclosed::Unclosed;
+use gfx_state::Gfx;
+use page_model::Page;
+use press_fault::{Mem, Name, NoMemory, PsName};
+use ps_flow::{Flow, Level, NextObj, Pushes, run_flow};
+use ps_gfx_ops::run_gfx;
+use ps_scan::Scanner;
+use ps_stack_ops::run_stack;
+use ps_store::{Dicts, FlowOp, GfxOp, Obj, OpFault, Oper, PageOp, Span, Stack, StackOp, Store};
+use std::alloc::Global;
+use std::marker::Model;
+
+/// The most objects that are executed.
+pub(crate) const OBJECTS: u32 = 100_000_000;
+
+/// The state of the interpreter.
+#[derive(Drop)]
+pub(crate) struct Body {
+    pub(crate) alloc: Global,
+    pub(crate) stack: Stack,
+    pub(crate) store: Store,
+    pub(crate) dicts: Dicts,
+    pub(crate) flow: Flow,
+    pub(crate) at_once: Option<Obj>,
+    pub(crate) text: Scanner,
+    pub(crate) unclosed: Unclosed,
+    pub(crate) gfx: Gfx,
+    pub(crate) count: u32,
+}
+
+impl Model for Body {
+    ghost use Rattle.std.specs.Prelude.{◌≤◌};
+    ghost use Rattle.ps_machine.specs.State.{State};
+
+    ghost Value = { State };
+
+    ghost view = { λ b. record {
+      operands = b.stack;
+      store = b.store;
+      dicts = b.dicts;
+      levels = b.flow;
+      at_once = b.at_once;
+      text = b.text;
+      unclosed = b.unclosed;
+      graphics = b.gfx;
+      count = b.count;
+    } };
+
+    ghost invariant = { λ b. b.count ≤ 100000000 };
+}
+
+impl Body {
+    /// One step. Where it ends the program, `end` says how.
+    #[tactic(auto, unfolding(crate::specs::Reading::step))]
+    pub(crate) fn step(&mut self, end: &mut End) -> Mem<Turn>
+        ensures { IfOk result (λ turn. step self.old ≡ step_of turn self.new end.new) }
+    {
+        match self.at_once {
+            Some(o) => {
+                self.at_once = None;
+                self.execute(end, &o)
+            }
+            None => {
+                let next = self.flow.next_object();
+                self.go_on(end, next)
+            }
+        }
+    }
+
+    #[tactic(auto, unfolding(crate::specs::Reading::go_on))]
+    fn go_on(&mut self, end: &mut End, next: NextObj) -> Mem<Turn>
+        ensures { IfOk result (λ turn. go_on next self.old ≡ step_of turn self.new end.new) }
+    {
+        match next {
+            NextObj::Run(place) => {
+                if self.count >= OBJECTS {
+                    return Ok(timeout(end));
+                }
+                self.count += 1;
+                self.execute_at(end, place)
+            }
+            NextObj::Turn { op, pushes } => {
+                if self.count >= OBJECTS {
+                    return Ok(timeout(end));
+                }
+                self.count += 1;
+                Ok(self.begin_turn(end, op, pushes))
+            }
+            NextObj::Passed => Ok(self.push(end, b"stopped", Obj::Bool(false))),
+            NextObj::Empty => self.read(end),
+        }
+    }
+
+    /// Executes an object that isn't counted.
+    #[tactic(auto, unfolding(crate::specs::Steps::execute))]
+    pub(crate) fn execute(&mut self, end: &mut End, o: &Obj) -> Mem<Turn>
+        ensures { IfOk result (λ turn. execute o.now self.old ≡ step_of turn self.new end.new) }
+    {
+        match o {
+            Obj::Name(name, true) => self.execute_name(end, name),
+            Obj::Oper(op) => self.operate(end, *op),
+            _ => Ok(self.push(end, b"push", *o)),
+        }
+    }
+
+    /// Executes what stands at a place of the store.
+    #[tactic(auto, unfolding(crate::specs::Steps::execute))]
+    fn execute_at(&mut self, end: &mut End, place: Span) -> Mem<Turn>
+        ensures { IfOk result (λ turn. execute (element self.old.store place 0) self.old ≡ step_of turn self.new end.new) }
+    {
+        match self.store.operator_at(place, 0) {
+            Some(op) => self.operate(end, op),
+            None => {
+                let o = self.store.get(place, 0);
+                self.execute(end, &o)
+            }
+        }
+    }
+
+    fn execute_name(&mut self, end: &mut End, name: &Name) -> Mem<Turn>
+        ensures { IfOk result (λ turn.
+            execute_value name.now (find_key self.old.store self.old.dicts (Key.Named name.now)) self.old ≡ step_of turn self.new end.new) }
+    {
+        let found = self.dicts.find_name(&self.store, name).copied();
+        self.execute_value(end, name, found)
+    }
+
+    #[tactic(auto, unfolding(crate::specs::Steps::execute_value))]
+    fn execute_value(&mut self, end: &mut End, name: &Name, found: Option<Obj>) -> Mem<Turn>
+        ensures { IfOk result (λ turn. execute_value name.now found self.old ≡ step_of turn self.new end.new) }
+    {
+        match &found {
+            Some(o) => match o {
+                Obj::Array(p, true) => Ok(self.call(end, name, *p)),
+                Obj::Oper(op) => self.operate(end, *op),
+                Obj::Name(_, true) => {
+                    if self.count >= OBJECTS {
+                        return Ok(timeout(end));
+                    }
+                    self.count += 1;
+                    self.at_once = Some(*o);
+                    Ok(Turn::Went)
+                }
+                _ => Ok(self.push(end, b"push", *o)),
+            },
+            None => Ok(self.fail(end, PsName::Undefined, *name)),
+        }
+    }
+
+    /// A procedure found by a name runs.
+    fn call(&mut self, end: &mut End, name: &Name, p: Span) -> Turn
+        ensures { call name.now (Level.Procedure p) self.old ≡ step_of result self.new end.new }
+    {
+        match self.flow.call(p) {
+            Ok(()) => Turn::Went,
+            Err(_) => self.fail(end, PsName::ExecStackOverflow, *name),
+        }
+    }
+
+    /// Does an operator's row.
+    #[tactic(auto, unfolding(crate::specs::Steps::operate))]
+    fn operate(&mut self, end: &mut End, op: Oper) -> Mem<Turn>
+        ensures { IfOk result (λ turn. operate op self.old ≡ step_of turn self.new end.new) }
+    {
+        match op {
+            Oper::Stack(op) => self.operate_stack(end, op),
+            Oper::Data(_) => Ok(self.fail(end, PsName::Undefined, command_of(op))),
+            Oper::Flow(op) => self.operate_flow(end, op),
+            Oper::Gfx(op) => self.operate_gfx(end, op),
+            Oper::Page(PageOp::Quit) => {
+                *end = End::Done;
+                Ok(Turn::Ended)
+            }
+            Oper::Page(PageOp::Showpage) => Ok(Turn::Shown),
+        }
+    }
+
+    fn operate_stack(&mut self, end: &mut End, op: StackOp) -> Mem<Turn>
+        ensures { IfOk result (λ turn.
+            after_stack (stack_row op self.old.operands self.old.store) (name_of (Oper.Stack op)) self.old ≡ step_of turn self.new end.new) }
+    {
+        match run_stack(op, &mut self.stack, &mut self.store) {
+            Ok(()) => Ok(Turn::Went),
+            Err(OpFault::Ps(name)) => Ok(self.fail(end, name, command_of(Oper::Stack(op)))),
+            Err(OpFault::NoMemory) => Err(NoMemory),
+        }
+    }
+
+    fn operate_gfx(&mut self, end: &mut End, op: GfxOp) -> Mem<Turn>
+        ensures { IfOk result (λ turn.
+            after_gfx (gfx_row op self.old.operands self.old.graphics) (name_of (Oper.Gfx op)) self.old ≡ step_of turn self.new end.new) }
+    {
+        match run_gfx(self.alloc, op, &mut self.stack, &mut self.gfx) {
+            Ok(()) => Ok(Turn::Went),
+            Err(OpFault::Ps(name)) => Ok(self.fail(end, name, command_of(Oper::Gfx(op)))),
+            Err(OpFault::NoMemory) => Err(NoMemory),
+        }
+    }
+
+    fn operate_flow(&mut self, end: &mut End, op: FlowOp) -> Mem<Turn>
+        ensures { IfOk result (λ turn. operate_flow op self.old ≡ step_of turn self.new end.new) }
+    {
+        match op {
+            FlowOp::Stop => self.stop(end),
+            _ => self.control(end, op),
+        }
+    }
+
+    /// An operator on the execution stack, but for `stop`.
+    fn control(&mut self, end: &mut End, op: FlowOp) -> Mem<Turn>
+        ensures { IfOk result (λ turn.
+            after_flow (flow_row op self.old.operands self.old.levels self.old.store self.old.dicts) (flow_name_of op) self.old ≡ step_of turn self.new end.new) }
+    {
+        match run_flow(
+            op,
+            &mut self.stack,
+            &mut self.flow,
+            &mut self.store,
+            &self.dicts,
+        ) {
+            Ok(at_once) => {
+                self.at_once = at_once;
+                Ok(Turn::Went)
+            }
+            Err(OpFault::Ps(name)) => Ok(self.fail(end, name, command_of(Oper::Flow(op)))),
+            Err(OpFault::NoMemory) => Err(NoMemory),
+        }
+    }
+
+    /// `stop`: the innermost `stopped` goes and gives true.
+    fn stop(&mut self, end: &mut End) -> Mem<Turn>
+        ensures { IfOk result (λ turn. operate_flow FlowOp.Stop self.old ≡ step_of turn self.new end.new) }
+    {
+        match run_flow(
+            FlowOp::Stop,
+            &mut self.stack,
+            &mut self.flow,
+            &mut self.store,
+            &self.dicts,
+        ) {
+            Ok(_) => Ok(self.push(end, b"stopped", Obj::Bool(true))),
+            Err(OpFault::Ps(name)) => Ok(self.fail(
+                end,
+                name,
+                command_of(Oper::Flow(FlowOp::Stop)),
+            )),
+            Err(OpFault::NoMemory) => Err(NoMemory),
+        }
+    }
+
+    /// What a turn of a loop pushes.
+    fn begin_turn(&mut self, end: &mut End, op: FlowOp, pushes: Pushes) -> Turn
+        ensures { turned op pushes self.old ≡ step_of result self.new end.new }
+    {
+        match pushes.onto(&mut self.stack) {
+            Ok(()) => Turn::Went,
+            Err(_) => self.fail(end, PsName::StackOverflow, command_of(Oper::Flow(op))),
+        }
+    }
+
+    /// Pushes an object, or fails with the command where there is no room.
+    pub(crate) fn push(&mut self, end: &mut End, command: &[u8], o: Obj) -> Turn
+        requires { length command.now ≤ 127 }
+        ensures { pushes command.now o self.old ≡ step_of result self.new end.new }
+    {
+        match self.stack.push(o) {
+            Ok(()) => Turn::Went,
+            Err(_) => self.fail(end, PsName::StackOverflow, named(command)),
+        }
+    }
+
+    /// An error: it goes to the innermost `stopped`, or ends the program.
+    pub(crate) fn fail(&mut self, end: &mut End, name: PsName, command: Name) -> Turn
+        ensures { failed name command self.old ≡ step_of result self.new end.new }
+    {
+        match catch(&mut self.stack, &mut self.flow, name, command) {
+            None => {
+                self.at_once = None;
+                Turn::Went
+            }
+            Some(reason) => {
+                *end = reason;
+                Turn::Ended
+            }
+        }
+    }
+
+    /// The page that was shown, which is erased; what `initgraphics` sets is set.
+    pub(crate) fn take_page(&mut self) -> Page
+        ensures page { result ≡ page_of self.old.graphics }
+        ensures rest { self.new ≡ shown self.old }
+    {
+        let page = self.gfx.take_page();
+        self.gfx.initial();
+        page
+    }
+}

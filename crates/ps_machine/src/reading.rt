@@ -1,0 +1,117 @@
+//! The program's text, read one token at a time.
+ghost use Rattle.std.specs.Prelude.{◌≡◌, ◌≤◌, IfOk, length, codes, Some, None};
+ghost use Rattle.ps_store.specs.Store.{with_text_of, with_array_of};
+ghost use Rattle.ps_store.specs.Dicts.{find_key};
+ghost use Rattle.ps_machine.specs.State.{State as Snapshot};
+ghost use Rattle.ps_machine.specs.Errors.{counted};
+ghost use Rattle.ps_machine.specs.Steps.{execute};
+ghost use Rattle.ps_machine.specs.Reading.{read, read_token, met, met_string, met_procedure, met_value, closed, unmade};
+ghost use Rattle.ps_machine.specs.Meaning.{step_of};
+
+use crate::body::{Body, OBJECTS};
+use crate::errors::{named, timeout};
+use crate::turn::{End, Turn};
+use press_fault::{Grow, Mem, Name, NoMemory, PsName};
+use ps_scan::{Bytes, ScanFault, Token};
+use ps_store::{Obj, Span};
+
+impl Body {
+    /// Reads the next token of the text.
+    #[tactic(auto, unfolding(crate::specs::Reading::read))]
+    pub(crate) fn read(&mut self, end: &mut End) -> Mem<Turn>
+        ensures { IfOk result (λ turn. read self.old ≡ step_of turn self.new end.new) }
+    {
+        match self.text.next(self.alloc) {
+            Ok(token) => self.read_token(end, token),
+            Err(ScanFault::Syntax) => Ok(self.fail(end, PsName::SyntaxError, named(b"scan"))),
+            Err(ScanFault::Limit) => Ok(self.fail(end, PsName::LimitCheck, named(b"scan"))),
+            Err(ScanFault::NoMemory) => Err(NoMemory),
+        }
+    }
+
+    #[tactic(auto, unfolding(crate::specs::Reading::read_token))]
+    fn read_token(&mut self, end: &mut End, token: Token) -> Mem<Turn>
+        ensures { IfOk result (λ turn. read_token token self.old ≡ step_of turn self.new end.new) }
+    {
+        match token {
+            Token::Int(n) => self.meet(end, &Obj::Int(n)),
+            Token::Real(raw) => self.meet(end, &Obj::Real(raw)),
+            Token::Literal(name) => self.meet(end, &Obj::Name(name, false)),
+            Token::Exec(name) => self.meet(end, &Obj::Name(name, true)),
+            Token::Now(name) => self.meet_value(end, &name),
+            Token::Text(bytes) => self.meet_string(end, &bytes),
+            Token::Open => {
+                self.unclosed.open()?;
+                Ok(Turn::Went)
+            }
+            Token::Close => self.close(end),
+            Token::End => {
+                *end = End::Done;
+                Ok(Turn::Ended)
+            }
+        }
+    }
+
+    /// An object of the text: an element of the procedure that is open, else it is executed.
+    fn meet(&mut self, end: &mut End, o: &Obj) -> Mem<Turn>
+        ensures { IfOk result (λ turn. met o.now self.old.unclosed self.old ≡ step_of turn self.new end.new) }
+    {
+        if self.unclosed.is_empty() {
+            if self.count >= OBJECTS {
+                return Ok(timeout(end));
+            }
+            self.count += 1;
+            self.execute(end, o)
+        } else {
+            self.unclosed.add(*o)?;
+            Ok(Turn::Went)
+        }
+    }
+
+    /// A name that is looked up at once.
+    fn meet_value(&mut self, end: &mut End, name: &Name) -> Mem<Turn>
+        ensures { IfOk result (λ turn.
+            met_value name.now (find_key self.old.store self.old.dicts (Key.Named name.now)) self.old ≡ step_of turn self.new end.new) }
+    {
+        match self.dicts.find_name(&self.store, name).copied() {
+            Some(o) => self.meet(end, &o),
+            None => Ok(self.fail(end, PsName::Undefined, *name)),
+        }
+    }
+
+    /// A string of the text.
+    fn meet_string(&mut self, end: &mut End, bytes: &Bytes) -> Mem<Turn>
+        ensures { IfOk result (λ turn. met_string (with_text_of self.old.store bytes.now) self.old ≡ step_of turn self.new end.new) }
+    {
+        match self.store.new_text_of(bytes.items()) {
+            Ok(span) => self.meet(end, &Obj::Text(span)),
+            Err(Grow::LimitCheck) => Ok(self.refuse(end)),
+            Err(Grow::NoMemory) => Err(NoMemory),
+        }
+    }
+
+    /// The end of the innermost open procedure.
+    fn close(&mut self, end: &mut End) -> Mem<Turn>
+        ensures { IfOk result (λ turn. closed self.old.unclosed self.old ≡ step_of turn self.new end.new) }
+    {
+        let Some(procedure) = self.unclosed.close() else {
+            return Ok(self.fail(end, PsName::SyntaxError, named(b"scan")));
+        };
+        match self.store.new_array_of(procedure.items()) {
+            Ok(span) => self.meet(end, &Obj::Array(span, true)),
+            Err(Grow::LimitCheck) => Ok(self.refuse(end)),
+            Err(Grow::NoMemory) => Err(NoMemory),
+        }
+    }
+
+    /// A string or a procedure that a limit refuses.
+    fn refuse(&mut self, end: &mut End) -> Turn
+        ensures { unmade self.old.unclosed self.old ≡ step_of result self.new end.new }
+    {
+        if self.unclosed.is_empty() && self.stack.len() >= 500 {
+            self.fail(end, PsName::StackOverflow, named(b"push"))
+        } else {
+            self.fail(end, PsName::LimitCheck, named(b"scan"))
+        }
+    }
+}
