@@ -45,7 +45,8 @@ after_flow (Refuses name) command s = failed name command s
 
 -- stop cuts the levels back to those below the stopped, which then gives true
 abbrev pub after_stop : Outcome (Course × Kept) → List ℕ → State → Step
-after_stop (GoesOn course) command s = pushes (codes "stopped") (Truth true) (record s { levels = course.0.levels })
+after_stop (GoesOn course) command s =
+    pushes (codes "stopped") (Truth true) (record s { operands = course.0.operands; store = course.1; levels = course.0.levels })
 after_stop (Refuses name) command s = failed name command s
 
 abbrev pub operate_flow : FlowOp → State → Step

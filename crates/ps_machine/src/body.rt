@@ -1,6 +1,7 @@
 //! The state of the interpreter, and one step of it.
 ghost use Rattle.std.specs.Prelude.{◌≡◌, ◌≤◌, Some, None, IfOk, length, codes, true};
 ghost use Rattle.ps_store.specs.Store.{element};
+ghost use Rattle.ps_store.specs.declared.key.Key.TheVariants.{Named};
 ghost use Rattle.ps_store.specs.Dicts.{find_key};
 ghost use Rattle.ps_store.specs.Operators.{name_of, flow_name_of};
 ghost use Rattle.ps_stack_ops.specs.Rows.{stack_row};
@@ -137,7 +138,7 @@ impl Body {
 
     fn execute_name(&mut self, end: &mut End, name: &Name) -> Mem<Turn>
         ensures { IfOk result (λ turn.
-            execute_value name.now (find_key self.old.store self.old.dicts (Key.Named name.now)) self.old ≡ step_of turn self.new end.new) }
+            execute_value name.now (find_key self.old.store self.old.dicts (Named name.now)) self.old ≡ step_of turn self.new end.new) }
     {
         let found = self.dicts.find_name(&self.store, name).copied();
         self.execute_value(end, name, found)

@@ -1,6 +1,7 @@
 //! The program's text, read one token at a time.
 ghost use Rattle.std.specs.Prelude.{◌≡◌, ◌≤◌, IfOk, length, codes, Some, None};
 ghost use Rattle.ps_store.specs.Store.{with_text_of, with_array_of};
+ghost use Rattle.ps_store.specs.declared.key.Key.TheVariants.{Named};
 ghost use Rattle.ps_store.specs.Dicts.{find_key};
 ghost use Rattle.ps_machine.specs.State.{State as Snapshot};
 ghost use Rattle.ps_machine.specs.Errors.{counted};
@@ -71,7 +72,7 @@ impl Body {
     /// A name that is looked up at once.
     fn meet_value(&mut self, end: &mut End, name: &Name) -> Mem<Turn>
         ensures { IfOk result (λ turn.
-            met_value name.now (find_key self.old.store self.old.dicts (Key.Named name.now)) self.old ≡ step_of turn self.new end.new) }
+            met_value name.now (find_key self.old.store self.old.dicts (Named name.now)) self.old ≡ step_of turn self.new end.new) }
     {
         match self.dicts.find_name(&self.store, name).copied() {
             Some(o) => self.meet(end, &o),
