@@ -16,6 +16,7 @@ use Rattle.ps_store.specs.Store.{Kept}
 use Rattle.ps_store.specs.Dicts.{find_key}
 use Rattle.ps_store.specs.Desk.{Desk}
 use Rattle.ps_stack_ops.specs.Rows.{stack_row}
+use Rattle.ps_data_ops.specs.Rows.{Work, data_row}
 use Rattle.ps_flow.specs.declared.level.Level.TheVariants.{Procedure}
 use Rattle.ps_flow.specs.declared.level.Level.{Level}
 use Rattle.ps_flow.specs.declared.pushes.Pushes.{Pushes}
@@ -32,6 +33,15 @@ use Rattle.ps_machine.specs.Errors.{Step, Goes, Shows, Ends, failed, pushes, cou
 abbrev pub after_stack : Outcome Desk → List ℕ → State → Step
 after_stack (GoesOn desk) command s = Goes (record s { operands = desk.operands; store = desk.store })
 after_stack (Refuses name) command s = failed name command s
+
+-- what data operators work on
+abbrev pub work_of : State → Work
+work_of s = record { operands = s.operands; store = s.store; dicts = s.dicts; file = s.text }
+
+abbrev pub after_data : Outcome Work → List ℕ → State → Step
+after_data (GoesOn work) command s =
+    Goes (record s { operands = work.operands; store = work.store; dicts = work.dicts; text = work.file })
+after_data (Refuses name) command s = failed name command s
 
 abbrev pub after_gfx : Outcome Easel → List ℕ → State → Step
 after_gfx (GoesOn easel) command s = Goes (record s { operands = easel.operands; graphics = easel.graphics })
@@ -60,7 +70,7 @@ shown s = record s { graphics = with_initial (erased s.graphics) }
 -- an operator does its row
 unfoldable pub operate : Oper → State → Step
 operate (Stack op) s = after_stack (stack_row op s.operands s.store) (name_of (Stack op)) s
-operate (Data op) s = failed Undefined (name_of (Data op)) s
+operate (Data op) s = after_data (data_row op (work_of s)) (name_of (Data op)) s
 operate (Flow op) s = operate_flow op s
 operate (Gfx op) s = after_gfx (gfx_row op s.operands s.graphics) (name_of (Gfx op)) s
 operate (Page Quit) s = Ends Done

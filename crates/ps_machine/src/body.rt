@@ -5,11 +5,12 @@ ghost use Rattle.ps_store.specs.declared.key.Key.TheVariants.{Named};
 ghost use Rattle.ps_store.specs.Dicts.{find_key};
 ghost use Rattle.ps_store.specs.Operators.{name_of, flow_name_of};
 ghost use Rattle.ps_stack_ops.specs.Rows.{stack_row};
+ghost use Rattle.ps_data_ops.specs.Rows.{data_row};
 ghost use Rattle.ps_flow.specs.Rows.{flow_row};
 ghost use Rattle.ps_gfx_ops.specs.Rows.{gfx_row};
 ghost use Rattle.ps_machine.specs.State.{State as Snapshot, opening};
 ghost use Rattle.ps_machine.specs.Errors.{failed, caught, pushes, counted, Ends};
-ghost use Rattle.ps_machine.specs.Steps.{execute, execute_value, operate, operate_flow, after_stack, after_gfx, after_flow, after_stop, call, turned, shown};
+ghost use Rattle.ps_machine.specs.Steps.{execute, execute_value, operate, operate_flow, after_stack, after_data, work_of, after_gfx, after_flow, after_stop, call, turned, shown};
 ghost use Rattle.ps_machine.specs.Reading.{step, go_on};
 ghost use Rattle.ps_machine.specs.Meaning.{step_of};
 ghost use Rattle.ps_machine.specs.Landing.{IsCaught};
@@ -21,11 +22,12 @@ use crate::unclosed::Unclosed;
 use gfx_state::Gfx;
 use page_model::Page;
 use press_fault::{Mem, Name, NoMemory, PsName};
+use ps_data_ops::run_data;
 use ps_flow::{Flow, Level, NextObj, Pushes, run_flow};
 use ps_gfx_ops::run_gfx;
 use ps_scan::Scanner;
 use ps_stack_ops::run_stack;
-use ps_store::{Dicts, FlowOp, GfxOp, Obj, OpFault, Oper, PageOp, Span, Stack, StackOp, Store};
+use ps_store::{DataOp, Dicts, FlowOp, GfxOp, Obj, OpFault, Oper, PageOp, Span, Stack, StackOp, Store};
 use std::alloc::Global;
 use std::marker::Model;
 
@@ -183,7 +185,7 @@ impl Body {
     {
         match op {
             Oper::Stack(op) => self.operate_stack(end, op),
-            Oper::Data(_) => Ok(self.fail(end, PsName::Undefined, command_of(op))),
+            Oper::Data(op) => self.operate_data(end, op),
             Oper::Flow(op) => self.operate_flow(end, op),
             Oper::Gfx(op) => self.operate_gfx(end, op),
             Oper::Page(PageOp::Quit) => {
@@ -201,6 +203,17 @@ impl Body {
         match run_stack(op, &mut self.stack, &mut self.store) {
             Ok(()) => Ok(Turn::Went),
             Err(OpFault::Ps(name)) => Ok(self.fail(end, name, command_of(Oper::Stack(op)))),
+            Err(OpFault::NoMemory) => Err(NoMemory),
+        }
+    }
+
+    fn operate_data(&mut self, end: &mut End, op: DataOp) -> Mem<Turn>
+        ensures { IfOk result (λ turn.
+            after_data (data_row op (work_of self.old)) (name_of (Oper.Data op)) self.old ≡ step_of turn self.new end.new) }
+    {
+        match run_data(op, &mut self.stack, &mut self.store, &mut self.dicts, &mut self.text) {
+            Ok(()) => Ok(Turn::Went),
+            Err(OpFault::Ps(name)) => Ok(self.fail(end, name, command_of(Oper::Data(op)))),
             Err(OpFault::NoMemory) => Err(NoMemory),
         }
     }
