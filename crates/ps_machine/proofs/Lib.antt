@@ -1,1 +1,2 @@
 mod Catching
+mod Filled

@@ -1,5 +1,7 @@
 pub mod Nested
 pub mod State
+pub mod Opening
+pub mod Filling
 pub mod Errors
 pub mod Landing
 pub mod Steps

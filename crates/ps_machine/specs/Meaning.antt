@@ -4,14 +4,15 @@
 use Rattle.std.specs.Prelude.{◌≡◌, ℕ, suc, zero, List, [], ◌∷◌, Option, Some, None, Bool, true, false, codes}
 use Rattle.press_fault.specs.declared.names.PsName.TheVariants.{Timeout}
 use Rattle.page_model.specs.Page.{Sheet}
-use Rattle.gfx_state.specs.Graphics.{page_of}
+use Rattle.gfx_state.specs.Graphics.{PageSize, page_of}
 use Rattle.ps_machine.specs.declared.turn.End.{End}
 use Rattle.ps_machine.specs.declared.turn.End.TheVariants.{Ps}
 use Rattle.ps_machine.specs.declared.turn.Turn.{Turn}
 use Rattle.ps_machine.specs.declared.turn.Turn.TheVariants.{Went, Shown, Ended}
 use Rattle.ps_machine.specs.declared.turn.Event.{Event}
 use Rattle.ps_machine.specs.declared.turn.Event.TheVariants.{Page as ItsPage, End as ItsEnd}
-use Rattle.ps_machine.specs.State.{State}
+use Rattle.ps_machine.specs.State.{State, opening}
+use Rattle.ps_machine.specs.Opening.{opening_store}
 use Rattle.ps_machine.specs.Errors.{Step, Goes, Shows, Ends}
 use Rattle.ps_machine.specs.Steps.{shown}
 use Rattle.ps_machine.specs.Reading.{step}
@@ -36,6 +37,10 @@ and_then (Ends end) rest = nothing_more end
 unfoldable pub run : ℕ → State → Meaning
 run zero s = nothing_more (Ps Timeout (codes "run"))
 run (suc n) s = and_then (step s) (λ t. run n t)
+
+-- What a program means on a page of this size
+abbrev pub meaning_of : List ℕ → PageSize → Meaning
+meaning_of text size = run 1000000000000 (opening opening_store text size)
 
 -- what a machine still has to tell: where it ended, its end again
 abbrev pub still : Option End → ℕ → State → Meaning

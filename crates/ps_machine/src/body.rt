@@ -27,7 +27,9 @@ use ps_flow::{Flow, Level, NextObj, Pushes, run_flow};
 use ps_gfx_ops::run_gfx;
 use ps_scan::Scanner;
 use ps_stack_ops::run_stack;
-use ps_store::{DataOp, Dicts, FlowOp, GfxOp, Obj, OpFault, Oper, PageOp, Span, Stack, StackOp, Store};
+use ps_store::{
+    DataOp, Dicts, FlowOp, GfxOp, Obj, OpFault, Oper, PageOp, Span, Stack, StackOp, Store,
+};
 use std::alloc::Global;
 use std::marker::Model;
 
@@ -211,7 +213,13 @@ impl Body {
         ensures { IfOk result (λ turn.
             after_data (data_row op (work_of self.old)) (name_of (Oper.Data op)) self.old ≡ step_of turn self.new end.new) }
     {
-        match run_data(op, &mut self.stack, &mut self.store, &mut self.dicts, &mut self.text) {
+        match run_data(
+            op,
+            &mut self.stack,
+            &mut self.store,
+            &mut self.dicts,
+            &mut self.text,
+        ) {
             Ok(()) => Ok(Turn::Went),
             Err(OpFault::Ps(name)) => Ok(self.fail(end, name, command_of(Oper::Data(op)))),
             Err(OpFault::NoMemory) => Err(NoMemory),

@@ -7,6 +7,7 @@
 mod body;
 mod errors;
 mod machine;
+mod opening;
 mod reading;
 mod setup;
 mod turn;

@@ -1,11 +1,14 @@
 //! The machine: the pages of a program, one at a call, and its end.
 ghost use Rattle.std.specs.Prelude.{◌≡◌, Some, None, IfOk, OnErr, IsOk};
-ghost use Rattle.ps_machine.specs.Meaning.{run, IsTold, Comes, end_told};
+ghost use Rattle.ps_machine.specs.Meaning.{run, meaning_of, IsTold, Comes, end_told};
 
 use crate::body::Body;
 use crate::errors::timed_out;
+use crate::opening::opening_of;
+use crate::setup::Setup;
 use crate::turn::{End, Event, Turn};
 use press_fault::{Mem, NoMemory};
+use std::alloc::Global;
 use std::marker::Model;
 
 /// The most steps of a run.
@@ -31,6 +34,18 @@ impl Model for Machine {
 }
 
 impl Machine {
+    /// A run of a program from its start.
+    pub fn new(alloc: Global, program: Vec<u8>, setup: Setup) -> Mem<Machine>
+        ensures { IfOk result (λ machine. machine ≡ Some (meaning_of program.items setup)) }
+    {
+        Ok(Machine {
+            body: opening_of(alloc, program, setup)?,
+            left: STEPS,
+            ended: None,
+            is_spent: false,
+        })
+    }
+
     /// The next page, or the end. After the end the same end is answered again, and after out of memory that.
     pub fn next_page(&mut self) -> Mem<Event>
         ensures told { IfOk result (λ event. IsTold event self.old self.new) }

@@ -19,7 +19,7 @@ loop-name-preserved c =
     ap (λ command. caught StackOverflow command c.unwind.new.self c.push.new.self) c.named-command.ensures
     ∙ (ap (λ operands. caught StackOverflow (codes "stopped") c.unwind.new.self operands) c.in-Err.ensures.err
     ∙ (sym (goes_on c.loop-name.name c.loop-name.command c.loop-name.flow c.unwind.new.self c.loop-name.stack
-        (c.unwind.ensures.yes c.loop-name-test.true) c.in-Err.ensures.full)
+    (c.unwind.ensures.yes c.loop-name-test.true) c.in-Err.ensures.full)
     ∙ c.loop-name.invariant))
 
 pub returns : goal.returns
