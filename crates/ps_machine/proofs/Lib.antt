@@ -1,2 +1,3 @@
 mod Catching
 mod Filled
+pub mod Few

@@ -72,3 +72,8 @@ IsTold event before now = ⊥
 abbrev pub end_told : Event → Option End
 end_told (ItsPage page) = None
 end_told (ItsEnd end) = Some end
+
+-- no page goes by a source profile, as none is built
+abbrev pub GoesByNoSource : Event → Type 0
+GoesByNoSource (ItsPage page) = page.sources ≡ 0
+GoesByNoSource (ItsEnd end) = Unit {0}

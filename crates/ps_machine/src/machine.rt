@@ -1,6 +1,6 @@
 //! The machine: the pages of a program, one at a call, and its end.
-ghost use Rattle.std.specs.Prelude.{◌≡◌, Some, None, IfOk, OnErr, IsOk};
-ghost use Rattle.ps_machine.specs.Meaning.{run, meaning_of, IsTold, Comes, end_told};
+ghost use Rattle.std.specs.Prelude.{◌≡◌, Some, None, IfOk, OnErr, IsOk, ◌≤◌, length};
+ghost use Rattle.ps_machine.specs.Meaning.{run, meaning_of, IsTold, Comes, GoesByNoSource, end_told};
 
 use crate::body::Body;
 use crate::errors::timed_out;
@@ -35,8 +35,11 @@ impl Model for Machine {
 
 impl Machine {
     /// A run of a program from its start.
+    #[tactic(auto, using(crate::proofs::Few::few_pages))]
     pub fn new(alloc: Global, program: Vec<u8>, setup: Setup) -> Mem<Machine>
-        ensures { IfOk result (λ machine. machine ≡ Some (meaning_of program.items setup)) }
+        ensures means { IfOk result (λ machine. machine ≡ Some (meaning_of program.items setup)) }
+        // A page needs a step of its own.
+        ensures few { length (meaning_of program.items setup).pages ≤ 1000000000000 }
     {
         Ok(Machine {
             body: opening_of(alloc, program, setup)?,
@@ -51,6 +54,7 @@ impl Machine {
         ensures told { IfOk result (λ event. IsTold event self.old self.new) }
         ensures spent { OnErr result (self.new ≡ None) }
         ensures never { self.old ≡ None → IsOk result → ⊥ }
+        ensures plain { IfOk result GoesByNoSource }
     {
         if self.is_spent {
             return Err(NoMemory);
@@ -84,7 +88,8 @@ fn end_of(event: &Event) -> Option<End>
 /// Runs to the next page, or to the end.
 #[tactic(auto, unfolding(crate::specs::Meaning::run))]
 fn run_on(body: &mut Body, left: &mut u64) -> Mem<Event>
-    ensures { IfOk result (λ event. Comes event (run left.old body.old) (run left.new body.new)) }
+    ensures comes { IfOk result (λ event. Comes event (run left.old body.old) (run left.new body.new)) }
+    ensures plain { IfOk result GoesByNoSource }
 {
     let mut end = End::Done;
     while *left > 0 {
