@@ -1,15 +1,17 @@
 //! A program that runs: it hands out its pages one by one, and then its end.
-ghost use Rattle.std.specs.Prelude.{◌≡◌, ◌≤◌, length, vec_len, IfOk};
-ghost use Rattle.press_job.specs.Painted.{IsPageSize};
-ghost use Rattle.press_job.specs.Language.{meaning_of};
+ghost use Rattle.std.specs.Prelude.{◌≡◌, ◌≤◌, length, IfOk};
+ghost use Rattle.press_job.specs.Painted.{IsPageSize, IsDrawable};
+ghost use Rattle.press_job.specs.Program.{meaning_of, status_of};
 ghost use Rattle.press_job.specs.Turn.{after, IsFairEvent};
 
-use crate::lexing::next_word;
-use crate::painting::{Painter, Turn};
 use page_model::Page;
-use press_fault::{Mem, Status};
+use press_fault::{Mem, NoMemory, Status};
+use ps_machine::{End, Setup};
 use std::alloc::Global;
 use std::marker::Model;
+
+/// The dots of an inch.
+const RES: u32 = 72;
 
 /// What a program does next.
 #[derive(Drop)]
@@ -20,40 +22,35 @@ pub(crate) enum Event {
     End(Status),
 }
 
-/// A program, the place in it, and its state. Contracts see what it means from here on.
+/// A program that runs. Contracts see what it means from here on.
 #[derive(Drop)]
 pub(crate) struct Machine {
-    program: Vec<u8>,
-    place: usize,
-    painter: Painter,
+    interpreter: ps_machine::Machine,
 }
 
 impl Model for Machine {
-    ghost use Rattle.std.specs.Prelude.{◌≤◌, drop, vec_len};
-    ghost use Rattle.press_job.specs.Text.{words_of};
     ghost use Rattle.press_job.specs.Meaning.{Meaning};
-    ghost use Rattle.press_job.specs.Language.{run};
+    ghost use Rattle.press_job.specs.Program.{left_of};
 
     ghost Value = { Meaning };
 
-    ghost view = { λ m. run (words_of (drop m.place m.program.items)) m.painter };
-
-    ghost invariant = { λ m. m.place ≤ vec_len m.program };
+    ghost view = { λ m. left_of m.interpreter };
 }
 
 impl Machine {
-    #[tactic(auto, using(crate::proofs::Few::few_pages), unfolding(crate::specs::Language::meaning_of))]
-    pub(crate) fn new(alloc: Global, program: Vec<u8>, width: u32, height: u32) -> Machine
+    pub(crate) fn new(alloc: Global, program: Vec<u8>, width: u32, height: u32) -> Mem<Machine>
         requires { IsPageSize width height }
-        ensures means { result ≡ meaning_of width height program.items }
-        // A page needs a word of its own.
-        ensures few { length result.pages ≤ vec_len program }
+        ensures means { IfOk result (λ machine. machine ≡ meaning_of width height program.items) }
+        ensures few { length (meaning_of width height program.items).pages ≤ 1000000000000 }
     {
-        Machine {
-            program,
-            place: 0,
-            painter: Painter::new(alloc, width, height),
-        }
+        let setup = Setup {
+            width,
+            height,
+            res: RES,
+        };
+        Ok(Machine {
+            interpreter: ps_machine::Machine::new(alloc, program, setup)?,
+        })
     }
 
     /// Goes on to the next page or to the end.
@@ -61,15 +58,35 @@ impl Machine {
         ensures next { IfOk result (λ event. self.old ≡ after event self.new) }
         ensures fair { IfOk result IsFairEvent }
     {
-        while let Some((word, end)) = next_word(&self.program, self.place) {
-            self.place = end;
-            let turn = self.painter.execute(word)?;
-            match turn {
-                Turn::Went => {}
-                Turn::Shown(page) => return Ok(Event::Page(page)),
-                Turn::Refused(status) => return Ok(Event::End(status)),
+        match self.interpreter.next_page() {
+            Ok(ps_machine::Event::Page(page)) => {
+                see_drawable(&page);
+                Ok(Event::Page(page))
             }
+            Ok(ps_machine::Event::End(end)) => Ok(Event::End(status(&end))),
+            Err(NoMemory) => Err(NoMemory),
         }
-        Ok(Event::End(Status::Done))
+    }
+}
+
+/// A page that goes by no source can be drawn with no profile.
+#[tactic(auto, using(crate::proofs::Plain::drawable))]
+fn see_drawable(page: &Page)
+    requires { page.now.sources ≡ 0 }
+    ensures { IsDrawable page.now }
+{
+    let _sources = page.sources;
+}
+
+/// A program's end as a status.
+fn status(end: &End) -> Status
+    ensures { result ≡ status_of end.now }
+{
+    match end {
+        End::Done => Status::Done,
+        End::Ps { name, command } => Status::Ps {
+            name: *name,
+            command: *command,
+        },
     }
 }
