@@ -56,8 +56,9 @@ dict_row [] s = Refuses StackUnderflow
 abbrev pub gathered_row : ℕ → List Obj → Kept → Outcome Desk
 gathered_row n operands s =
     or_limit (with_array s n) (λ new. Goes (record {
-        operands = Array new.0 false ∷ drop (n + 1) operands;
-        store = with_elements new.1 new.0 0 (reverse (take n operands)) }))
+      operands = Array new.0 false ∷ drop (n + 1) operands;
+      store = with_elements new.1 new.0 0 (reverse (take n operands));
+    }))
 
 abbrev pub or_unmatched : Option ℕ → (ℕ → Outcome Desk) → Outcome Desk
 or_unmatched (Some n) go = go n

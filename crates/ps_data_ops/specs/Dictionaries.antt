@@ -155,7 +155,7 @@ closed_row n operands s =
     if lacks_key s pairs then Refuses TypeCheck
     else if is_odd n then Refuses RangeCheck
     else or_limit (entered s [] pairs) (λ entries. or_limit (with_dict_of s entries) (λ new.
-        Goes (record { operands = Dict new.0 ∷ drop (n + 1) operands; store = new.1 })))
+    Goes (record { operands = Dict new.0 ∷ drop (n + 1) operands; store = new.1 })))
 
 -- `>>`: a new dictionary of the pairs above the topmost mark
 abbrev pub close_dict_row : List Obj → Kept → Outcome Desk

@@ -24,9 +24,10 @@ abbrev pub read_row : Span → List Obj → Kept → ℕ → List ℕ → Place 
 read_row p rest s count bytes behind =
     if p.len == 0 then Refuses RangeCheck
     else Goes (record {
-        operands = Boolean (count == p.len) ∷ Text (part_of p 0 count) ∷ rest;
-        store = with_elements s p 0 (integers bytes);
-        file = behind })
+      operands = Boolean (count == p.len) ∷ Text (part_of p 0 count) ∷ rest;
+      store = with_elements s p 0 (integers bytes);
+      file = behind;
+    })
 
 -- `readstring`
 abbrev pub readstring_row : List Obj → Kept → Place → Outcome Reader
