@@ -165,7 +165,7 @@ pub(crate) fn leaves(alloc: Global, left: &Left, held: usize, expected: &str) ->
             Err(_) => return Err(NoMemory),
         }
     }
-    Ok(left.stack.len() == held + wanted.len() && are_on_top(left, &wanted))
+    Ok(left.stack.len().checked_sub(held) == Some(wanted.len()) && are_on_top(left, &wanted))
 }
 
 fn is_error(error: PsName, text: &[u8]) -> bool {
