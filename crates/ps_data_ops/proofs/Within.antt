@@ -1,5 +1,5 @@
 -- What is true of a part is true of the whole.
-use Rattle.std.proofs.Common.{◌≡◌, ℕ, Result, Ok, Err, ap}
+use Rattle.std.proofs.Common.{Result, Ok, Err, ap}
 use Rattle.ps_store.specs.declared.fault.OpFault.{OpFault}
 use Rattle.ps_store.specs.declared.fault.OpFault.TheVariants.{Ps, NoMemory}
 use Rattle.ps_store.specs.Outcome.{Outcome, Answers}

@@ -1,7 +1,7 @@
 -- Operators on strings and arrays (PostScript Language Reference, third edition, 8.2).
 -- Own rule: the cases stand in the order in which an operator refuses: too few operands last, types
 -- before them, then the conditions from the outside to the inside.
-use Rattle.std.specs.Prelude.{ℕ, ℤ, pos, ◌+◌, Bool, true, false, ◌&&◌, List, [], ◌∷◌, ◌++◌, Option, Some, None, length, reverse, take, drop, int_le, nat_le, unsigned_abs, if◌then◌else◌}
+use Rattle.std.specs.Prelude.{ℕ, ℤ, pos, ◌+◌, false, ◌&&◌, List, [], ◌∷◌, ◌++◌, Option, Some, None, length, reverse, take, drop, int_le, nat_le, unsigned_abs, if◌then◌else◌}
 use Rattle.std.specs.List.{position_from}
 use Rattle.press_fault.specs.declared.names.PsName.TheVariants.{StackUnderflow, StackOverflow, TypeCheck, RangeCheck, LimitCheck, UnmatchedMark}
 use Rattle.press_fault.specs.declared.refusals.Grow.{Grow}
@@ -16,6 +16,7 @@ use Rattle.ps_store.specs.Desk.{Desk}
 use Rattle.ps_store.specs.Stack.{is_mark}
 use Rattle.ps_store.specs.Store.{Kept, with_text, with_array, with_dict}
 use Rattle.ps_store.specs.Gathering.{elements, with_elements}
+use Rattle.ps_store.specs.Copying.{copied_part}
 
 -- the count that an integer is, where it is not negative
 abbrev pub count_of : ℤ → Option ℕ
@@ -56,8 +57,9 @@ dict_row [] s = Refuses StackUnderflow
 abbrev pub gathered_row : ℕ → List Obj → Kept → Outcome Desk
 gathered_row n operands s =
     or_limit (with_array s n) (λ new. Goes (record {
-        operands = Array new.0 false ∷ drop (n + 1) operands;
-        store = with_elements new.1 new.0 0 (reverse (take n operands)) }))
+      operands = Array new.0 false ∷ drop (n + 1) operands;
+      store = with_elements new.1 new.0 0 (reverse (take n operands));
+    }))
 
 abbrev pub or_unmatched : Option ℕ → (ℕ → Outcome Desk) → Outcome Desk
 or_unmatched (Some n) go = go n
@@ -88,10 +90,11 @@ getinterval_row (Int count ∷ Int at ∷ Text p ∷ rest) = or_range (interval_
 getinterval_row (c ∷ b ∷ a ∷ rest) = Refuses TypeCheck
 getinterval_row operands = Refuses StackUnderflow
 
--- `putinterval`: the elements of the upper one, as they were before the first of them was written
+-- `putinterval`: the elements of the one on top into a part of the other, as they were before the first
+-- of them was written
 abbrev pub putinterval_row : List Obj → Kept → Outcome Desk
-putinterval_row (Array from y ∷ Int at ∷ Array to x ∷ rest) s = or_range (begin_of at from.len to.len) (λ i. Goes (record { operands = rest; store = with_elements s to i (elements s from) }))
-putinterval_row (Text from ∷ Int at ∷ Text to ∷ rest) s = or_range (begin_of at from.len to.len) (λ i. Goes (record { operands = rest; store = with_elements s to i (elements s from) }))
+putinterval_row (Array from y ∷ Int at ∷ Array to x ∷ rest) s = or_range (begin_of at from.len to.len) (λ i. Goes (record { operands = rest; store = copied_part s from (part_of to i from.len) }))
+putinterval_row (Text from ∷ Int at ∷ Text to ∷ rest) s = or_range (begin_of at from.len to.len) (λ i. Goes (record { operands = rest; store = copied_part s from (part_of to i from.len) }))
 putinterval_row (c ∷ b ∷ a ∷ rest) s = Refuses TypeCheck
 putinterval_row operands s = Refuses StackUnderflow
 

@@ -2,7 +2,7 @@
 -- 8.2). Own rules: names, strings, numbers and booleans are keys; a string of over 127 bytes is no
 -- name, so what defines it is refused by limitcheck, and what looks it up doesn't find it;
 -- dictionary 0 is systemdict and can't be written.
-use Rattle.std.specs.Prelude.{ℕ, ℤ, pos, ◌+◌, ◌%◌, ◌==◌, ◌||◌, Bool, true, false, List, [], ◌∷◌, Option, Some, None, Result, Ok, Err, length, reverse, take, drop, nat_le, nat_lt, if◌then◌else◌}
+use Rattle.std.specs.Prelude.{ℕ, pos, ◌+◌, ◌%◌, ◌==◌, ◌||◌, Bool, true, false, List, [], ◌∷◌, Option, Some, None, Result, Ok, Err, length, reverse, take, drop, nat_le, nat_lt, if◌then◌else◌}
 use Rattle.std.specs.Option.{is_some}
 use Rattle.std.specs.List.{position_from}
 use Rattle.indexmap.specs.IndexMap.{insert_entry}
@@ -155,7 +155,7 @@ closed_row n operands s =
     if lacks_key s pairs then Refuses TypeCheck
     else if is_odd n then Refuses RangeCheck
     else or_limit (entered s [] pairs) (λ entries. or_limit (with_dict_of s entries) (λ new.
-        Goes (record { operands = Dict new.0 ∷ drop (n + 1) operands; store = new.1 })))
+    Goes (record { operands = Dict new.0 ∷ drop (n + 1) operands; store = new.1 })))
 
 -- `>>`: a new dictionary of the pairs above the topmost mark
 abbrev pub close_dict_row : List Obj → Kept → Outcome Desk

@@ -1,7 +1,7 @@
 -- Reading from the program's own text (PostScript Language Reference, third edition, 8.2
 -- currentfile, readstring, readhexstring), from behind the last token on. Own rules: hexadecimal
 -- digits are paired, other bytes are skipped, and a last digit without a partner gives no byte.
-use Rattle.std.specs.Prelude.{ℕ, ◌*◌, ◌==◌, Bool, List, [], ◌∷◌, length, take, drop, min, if◌then◌else◌}
+use Rattle.std.specs.Prelude.{ℕ, ◌*◌, ◌==◌, List, ◌∷◌, length, take, drop, min, if◌then◌else◌}
 use Rattle.press_fault.specs.declared.names.PsName.TheVariants.{StackUnderflow, TypeCheck, RangeCheck}
 use Rattle.ps_scan.specs.Place.{Place}
 use Rattle.ps_scan.specs.Taking.{hex_count, hex_front, behind_hex}
@@ -24,9 +24,10 @@ abbrev pub read_row : Span → List Obj → Kept → ℕ → List ℕ → Place 
 read_row p rest s count bytes behind =
     if p.len == 0 then Refuses RangeCheck
     else Goes (record {
-        operands = Boolean (count == p.len) ∷ Text (part_of p 0 count) ∷ rest;
-        store = with_elements s p 0 (integers bytes);
-        file = behind })
+      operands = Boolean (count == p.len) ∷ Text (part_of p 0 count) ∷ rest;
+      store = with_elements s p 0 (integers bytes);
+      file = behind;
+    })
 
 -- `readstring`
 abbrev pub readstring_row : List Obj → Kept → Place → Outcome Reader

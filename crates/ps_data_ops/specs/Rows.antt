@@ -1,6 +1,6 @@
 -- What each data operator does (PostScript Language Reference, third edition, 8.2 Operator Details):
 -- its row stands with its kind, over just what it changes.
-use Rattle.std.specs.Prelude.{ℕ, Bool, true, false, List}
+use Rattle.std.specs.Prelude.{ℕ, true, false, List}
 use Rattle.ps_scan.specs.Place.{Place}
 use Rattle.ps_store.specs.declared.oper.DataOp.{DataOp}
 use Rattle.ps_store.specs.declared.oper.DataOp.TheVariants.{True, False, Null, Array, String, Dict, CloseArray, CloseDict, Length, Get, Put, Getinterval, Putinterval, Aload, Astore, Begin, End, Def, Load, Known, Where, Currentdict, Systemdict, Userdict, Cvn, Cvx, Cvlit, Xcheck, «Type» as TypeOf, Currentfile, Readstring, Readhexstring}

@@ -93,11 +93,7 @@ pub(crate) fn putinterval(stack: &mut Stack, store: &mut Store) -> Result<(), Op
     let Some(begin) = begin_in(at, from.len, to.len) else {
         return Err(OpFault::Ps(PsName::RangeCheck));
     };
-    match store.copy_elements(from, to, begin) {
-        Ok(()) => {
-            stack.drop_top(3);
-            Ok(())
-        }
-        Err(_) => Err(OpFault::NoMemory),
-    }
+    store.copy_part(from, part(to, begin, from.len));
+    stack.drop_top(3);
+    Ok(())
 }

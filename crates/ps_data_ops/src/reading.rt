@@ -11,7 +11,11 @@ use ps_scan::Scanner;
 use ps_store::{Obj, OpFault, Span, Stack, Store};
 
 /// `readstring`: bytes behind the last token into a string.
-pub(crate) fn readstring(stack: &mut Stack, store: &mut Store, file: &mut Scanner) -> Result<(), OpFault>
+pub(crate) fn readstring(
+    stack: &mut Stack,
+    store: &mut Store,
+    file: &mut Scanner,
+) -> Result<(), OpFault>
     ensures { Answers (readstring_row stack.old store.old file.old) result (record { operands = stack.old; store = store.old; file = file.old }) (record { operands = stack.new; store = store.new; file = file.new }) }
 {
     let Some((text, source)) = stack.top_two() else {
@@ -33,7 +37,11 @@ pub(crate) fn readstring(stack: &mut Stack, store: &mut Store, file: &mut Scanne
 }
 
 /// `readhexstring`: the bytes of hexadecimal digits behind the last token into a string.
-pub(crate) fn readhexstring(stack: &mut Stack, store: &mut Store, file: &mut Scanner) -> Result<(), OpFault>
+pub(crate) fn readhexstring(
+    stack: &mut Stack,
+    store: &mut Store,
+    file: &mut Scanner,
+) -> Result<(), OpFault>
     ensures { Answers (readhexstring_row stack.old store.old file.old) result (record { operands = stack.old; store = store.old; file = file.old }) (record { operands = stack.new; store = store.new; file = file.new }) }
 {
     let Some((text, source)) = stack.top_two() else {

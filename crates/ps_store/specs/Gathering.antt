@@ -1,6 +1,4 @@
 -- Many objects at once, between strings, arrays and the operands.
--- Own rule: what moves several objects reads all of them before it writes the first one, and
--- writes them in order.
 use Rattle.std.specs.Prelude.{ℕ, ◌+◌, ◌*◌, List, [], ◌∷◌, length, map, pos, Option, Some, None, if◌then◌else◌}
 use Rattle.std.specs.List.{range_with_len}
 use Rattle.ps_store.specs.declared.obj.Obj.{Obj}

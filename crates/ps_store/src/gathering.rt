@@ -1,7 +1,5 @@
 //! Many objects at once, between strings, arrays and the operands.
-ghost use Rattle.std.specs.Prelude.{◌≡◌, ◌↔◌, [], Some, None, IsErrOf, ◌≤◌, ◌<◌, ◌+◌, ◌^◌, ◌++◌, length, reverse, take, drop, IfOk, OnOk, OnErr, map, vec_len};
-ghost use Rattle.std.specs.List.{range_with_len};
-ghost use Rattle.ps_store.specs.Store.{element};
+ghost use Rattle.std.specs.Prelude.{◌≡◌, ◌↔◌, [], Some, None, IsErrOf, ◌≤◌, ◌<◌, ◌+◌, ◌^◌, ◌++◌, length, reverse, take, drop, IfOk, OnErr, vec_len};
 ghost use Rattle.ps_store.specs.Gathering.{elements, with_elements, integers, with_dict_of};
 
 use crate::entries::Entries;
@@ -12,30 +10,6 @@ use press_fault::{Grow, Mem};
 use press_nums::Whole;
 
 impl Store {
-    /// The elements of an array, or the bytes of a string as integers, in order.
-    pub fn elements(&self, span: Span) -> Mem<Vec<Obj>>
-        ensures value { IfOk result (λ items. items.items ≡ elements self.now span) }
-        ensures len { IfOk result (λ items. vec_len items ≡ span.len) }
-    {
-        let items = (0..span.len)
-            .map(|at| self.get(span, at))
-            .collect(self.alloc)?;
-        Ok(items)
-    }
-
-    /// Puts objects at the places of an array or a string, in order, from `at` on.
-    #[tactic(auto, unfolding(crate::specs::Gathering::with_elements))]
-    pub fn put_all(&mut self, span: Span, at: u32, items: &[Obj])
-        requires { at + length items.now < 2 ^ 32 }
-        ensures { self.new ≡ with_elements self.old span at items.now }
-    {
-        let mut place = at;
-        for item in items {
-            self.put(span, place, *item);
-            place += 1;
-        }
-    }
-
     /// Puts bytes at the places of a string, in order, from its first one on.
     #[tactic(auto, unfolding(crate::specs::Gathering::with_elements))]
     pub fn put_bytes(&mut self, span: Span, bytes: &[u8])
@@ -47,18 +21,6 @@ impl Store {
             self.put(span, place, Obj::Int(Whole::of(i32::from(*byte))));
             place += 1;
         }
-    }
-
-    /// Puts the elements of an array, or the bytes of a string, at the places of another from
-    /// `at` on, as they were before the first of them was written.
-    pub fn copy_elements(&mut self, from: Span, to: Span, at: u32) -> Mem<()>
-        requires { at + from.len < 2 ^ 32 }
-        ensures ok { OnOk result (self.new ≡ with_elements self.old to at (elements self.old from)) }
-        ensures err { OnErr result (self.new ≡ self.old) }
-    {
-        let items = self.elements(from)?;
-        self.put_all(to, at, &items);
-        Ok(())
     }
 
     /// Puts the operands below the top `below` ones at the places of an array, so many as it

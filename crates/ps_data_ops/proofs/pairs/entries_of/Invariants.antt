@@ -5,9 +5,9 @@ use Rattle.ps_data_ops.proofs.pairs.entries_of.Given as goal
 -- what is left to be entered leads to the same entries
 abbrev pub invariant-loop-left : goal.invariant-loop-left
 invariant-loop-left l = record {
-    held : l.left ≤ length l.stack;
-    small : length l.entries + l.left ≤ 500;
-    same : entered l.store l.entries (reverse (take l.left l.stack)) ≡ entered l.store [] (reverse (take l.len l.stack));
+  held : l.left ≤ length l.stack;
+  small : length l.entries + l.left ≤ 500;
+  same : entered l.store l.entries (reverse (take l.left l.stack)) ≡ entered l.store [] (reverse (take l.len l.stack));
 }
 
 abbrev pub decreases-loop-left : goal.decreases-loop-left
