@@ -174,26 +174,33 @@ fn close_dict(left: &mut Left) -> Result<(), OpFault> {
     let Ok(dict) = left.store.new_dict() else {
         return Err(OpFault::NoMemory);
     };
-    for pair in 0..depth / 2 {
-        let at = depth - 1 - 2 * pair;
-        let (Some(key), Some(value)) = (left.stack.at(at), left.stack.at(at - 1)) else {
-            return Ok(());
-        };
-        let (Ok(key), value) = (left.store.key_of(key), *value) else {
-            return Err(OpFault::Ps(PsName::TypeCheck));
-        };
-        let _ = left.store.define(dict, key, value);
-    }
+    define_pairs(&left.stack, &mut left.store, dict, depth)?;
     left.stack.drop_top(depth + 1);
     push(&mut left.stack, Obj::Dict(dict))
 }
 
-fn make_executable(stack: &mut Stack) -> Result<(), OpFault> {
-    match stack.pop() {
-        Ok(Obj::Array(span, _)) => push(stack, Obj::Array(span, true)),
-        Ok(o) => push(stack, o),
-        Err(_) => Ok(()),
+/// Defines the top operands in a dictionary, in pairs from the lowest on.
+fn define_pairs(stack: &Stack, store: &mut Store, dict: u32, depth: usize) -> Result<(), OpFault> {
+    for pair in 0..depth / 2 {
+        let at = depth - 1 - 2 * pair;
+        let (Some(key), Some(value)) = (stack.at(at), stack.at(at - 1)) else {
+            return Ok(());
+        };
+        let Ok(key) = store.key_of(key) else {
+            return Err(OpFault::Ps(PsName::TypeCheck));
+        };
+        let _ = store.define(dict, key, *value);
     }
+    Ok(())
+}
+
+fn make_executable(stack: &mut Stack) -> Result<(), OpFault> {
+    let Some(Obj::Array(span, _)) = stack.top() else {
+        return Err(OpFault::Ps(PsName::TypeCheck));
+    };
+    let span = *span;
+    stack.replace(1, Obj::Array(span, true));
+    Ok(())
 }
 
 fn take_part(stack: &mut Stack) -> Result<(), OpFault> {
@@ -254,9 +261,11 @@ fn length(left: &mut Left) -> Result<(), OpFault> {
 }
 
 fn show(left: &mut Left) -> Result<(), OpFault> {
-    let Ok(Obj::Array(span, _)) = left.stack.pop() else {
+    let Some(Obj::Array(span, _)) = left.stack.top() else {
         return Err(OpFault::Ps(PsName::TypeCheck));
     };
+    let span = *span;
+    left.stack.drop_top(1);
     for at in 0..span.len {
         push(&mut left.stack, left.store.get(span, at))?;
     }
@@ -278,7 +287,8 @@ pub(crate) fn leaves(alloc: Global, left: &Left, held: usize, expected: &str) ->
             Err(_) => return Err(NoMemory),
         }
     }
-    Ok(left.stack.len() == held + wanted.len() && are_on_top(left, &wanted))
+    let len = left.stack.len();
+    Ok(len >= held && len - held == wanted.len() && are_on_top(left, &wanted))
 }
 
 fn is_error(error: PsName, text: &[u8]) -> bool {
