@@ -11,7 +11,9 @@ use ps_store::{MAX_OPERANDS, Obj, OpFault, SYSTEMDICT, Span, Stack, Store};
 /// Copies operands by their number, or the items of one composite into another of its kind.
 #[tactic(auto, using(crate::proofs::Lifted::lifted))]
 pub(crate) fn copy(stack: &mut Stack, store: &mut Store) -> Result<(), OpFault>
-    ensures { Answers (copy_row stack.old store.old) result (record { operands = stack.old; store = store.old }) (record { operands = stack.new; store = store.new }) }
+    ensures { Answers (copy_row stack.old store.old) result
+        (record { operands = stack.old; store = store.old })
+        (record { operands = stack.new; store = store.new }) }
 {
     let Some((b, a)) = stack.top_two() else {
         return copy_one(stack, store);
@@ -77,7 +79,9 @@ fn define_entries(store: &mut Store, from: u32, to: u32) -> Result<(), OpFault>
 #[tactic(auto, using(crate::proofs::Lifted::lifted))]
 fn copy_one(stack: &mut Stack, store: &Store) -> Result<(), OpFault>
     requires { length stack.old < 2 }
-    ensures { Answers (copy_row stack.old store.now) result (record { operands = stack.old; store = store.now }) (record { operands = stack.new; store = store.now }) }
+    ensures { Answers (copy_row stack.old store.now) result
+        (record { operands = stack.old; store = store.now })
+        (record { operands = stack.new; store = store.now }) }
 {
     let Some(top) = stack.top() else {
         return Err(OpFault::Ps(PsName::StackUnderflow));

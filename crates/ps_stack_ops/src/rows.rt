@@ -21,7 +21,9 @@ use ps_store::{Obj, OpFault, Stack, StackOp, Store};
 /// dictionary, and then both are only good to be dropped.
 #[tactic(auto, using(crate::proofs::Lifted::lifted), unfolding(crate::specs::Rows::stack_row))]
 pub fn run_stack(op: StackOp, stack: &mut Stack, store: &mut Store) -> Result<(), OpFault>
-    ensures { Answers (stack_row op stack.old store.old) result (record { operands = stack.old; store = store.old }) (record { operands = stack.new; store = store.new }) }
+    ensures { Answers (stack_row op stack.old store.old) result
+        (record { operands = stack.old; store = store.old })
+        (record { operands = stack.new; store = store.new }) }
 {
     match op {
         StackOp::Pop => pop(stack),
