@@ -30,4 +30,4 @@ pub use numerals::Numeral;
 pub use reading::NESTING_LIMIT;
 pub use scanner::Scanner;
 pub use strings::{Does, Inside};
-pub use token::{Bytes, ScanFault, Token};
+pub use token::{Bytes, ScanFault, TEXT_LIMIT, Token};

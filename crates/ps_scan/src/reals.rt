@@ -96,7 +96,7 @@ fn scale_of(minus: bool, power: &[u8], places: usize) -> i32
     requires short { length power.now ≤ 4 }
     requires digits { list_all is_digit power.now ≡ true }
     ensures value { result ≡ signed minus (decimal_value power.now) -ℤ pos places }
-    ensures bound { unsigned_abs result ≤ 20000 }
+    ensures bound { unsigned_abs result ≤ 10030 }
 {
     let size = small_value(power) as i32;
     if minus {

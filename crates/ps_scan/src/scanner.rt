@@ -26,7 +26,7 @@ fn scan(alloc: Global, depth: u32, text: &[u8]) -> FrontToken
     let (_, start) = text.split_at(blank);
     match front_token(alloc, depth, start) {
         Ok((token, used)) => Ok((token, blank + used)),
-        Err(fault) => Err(fault),
+        Err(refusal) => Err(refusal),
     }
 }
 
