@@ -92,8 +92,8 @@ pub enum Token {
 pub enum ScanFault {
     /// An unclosed string or procedure, a lone `)`, `>` or `}`, another byte in `< >`, or `<~`.
     Syntax,
-    /// A number out of its range or with too many digits, a name of over 127 bytes, a string of over
-    /// 65,535 bytes, or a `{` where 64 procedures are open.
+    /// A number out of its range or with too many digits, a name of over 127 bytes, a string of
+    /// over 65,535 bytes, or a `{` where 64 procedures are open.
     Limit,
     /// Out of memory for a string's bytes.
     NoMemory,
