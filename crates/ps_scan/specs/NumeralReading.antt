@@ -1,4 +1,5 @@
--- The number that a run of regular bytes is, found from left to right.
+-- The number that a run of regular bytes is. Own rule: the function that Numerals is proved
+-- against.
 use Rattle.std.specs.Prelude.{ℕ, ◌+◌, ◌==◌, Bool, true, false, ◌&&◌, ◌||◌, List, [], ◌∷◌, length, take, drop, Option, Some, None, if◌then◌else◌, nat_lt}
 use Rattle.std.specs.List.{prefix_len}
 use Rattle.ps_scan.specs.Characters.{is_digit}
@@ -67,13 +68,20 @@ power_minus (c ∷ cs) = is_minus cs
 
 abbrev pub parts_from : Bool → List ℕ → List ℕ → Parts
 parts_from negative whole behind =
-    record { negative = negative; whole = whole; fraction = fraction_of behind; minus = power_minus (behind_fraction behind); power = power_digits (behind_fraction behind) }
+    record {
+      negative = negative;
+      whole = whole;
+      fraction = fraction_of behind;
+      minus = power_minus (behind_fraction behind);
+      power = power_digits (behind_fraction behind);
+    }
 
 unfoldable pub parts_of : List ℕ → Parts
 parts_of run = parts_from (is_minus run) (digits_in (unsigned run)) (behind_digits (unsigned run))
 
 abbrev pub is_real_from : List ℕ → List ℕ → Bool
-is_real_from whole behind = nat_lt 0 (length whole + length (fraction_of behind)) && is_power (behind_fraction behind)
+is_real_from whole behind =
+    nat_lt 0 (length whole + length (fraction_of behind)) && is_power (behind_fraction behind)
 
 -- whether a run that is no integer is a real
 abbrev pub is_real : List ℕ → Bool

@@ -5,7 +5,8 @@ use Rattle.ps_scan.specs.declared.token.Token.TheVariants.{Int, Real, Literal, E
 use Rattle.ps_scan.specs.declared.token.ScanFault.{ScanFault}
 use Rattle.ps_scan.specs.declared.token.ScanFault.TheVariants.{Syntax, Limit, NoMemory}
 
--- a token and the rest of the text, or none: for its syntax (syntaxerror), or for a limit (limitcheck)
+-- a token and the rest of the text, or none: for its syntax (syntaxerror), or for a limit
+-- (limitcheck)
 pub data Outcome : Type 0 where
   Gives : Token → List ℕ → Outcome
   BreaksSyntax : Outcome

@@ -9,7 +9,8 @@ use Rattle.ps_scan.specs.declared.numerals.Numeral.TheVariants.{Whole, TooGreat}
 -- one or two decimal digits, for a number from 2 to 36
 abbrev pub is_base : List ℕ → Bool
 is_base front =
-    nat_lt 0 (length front) && nat_le (length front) 2 && list_all is_digit front && nat_le 2 (decimal_value front) && nat_le (decimal_value front) 36
+    nat_lt 0 (length front) && nat_le (length front) 2 && list_all is_digit front
+    && nat_le 2 (decimal_value front) && nat_le (decimal_value front) 36
 
 -- a digit or letter below the base
 abbrev pub is_digit_below : ℕ → ℕ → Bool

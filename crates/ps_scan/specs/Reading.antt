@@ -1,4 +1,5 @@
--- The token at the front of a text, found from its first byte.
+-- The token at the front of a text, found by its first byte. Own rule: the function that Grammar is
+-- proved against, and that the meaning of a program cites.
 use Rattle.std.specs.Prelude.{◌≡◌, ℕ, ◌+◌, ◌*◌, ◌/◌, ◌==◌, Bool, true, false, not, ◌||◌, List, [], ◌∷◌, length, take, drop, if◌then◌else◌, nat_le, nat_lt, Option, Some, None}
 use Rattle.std.specs.List.{prefix_len, count_by}
 use Rattle.ps_scan.specs.Characters.{is_hex, digit_value, is_hex_or_white, begins, is_greater, is_white, is_line_end, is_regular, white_after}
@@ -63,31 +64,41 @@ unfoldable pub read_word : List ℕ → Reading
 read_word text = word (take (prefix_len is_regular text) text) text
 
 unfoldable pub read_literal : List ℕ → Reading
-read_literal text = named Literal (take (prefix_len is_regular (drop 1 text)) (drop 1 text)) (1 + prefix_len is_regular (drop 1 text)) text
+read_literal text =
+    named Literal (take (prefix_len is_regular (drop 1 text)) (drop 1 text))
+    (1 + prefix_len is_regular (drop 1 text)) text
 
 unfoldable pub read_now : List ℕ → Reading
-read_now text = named Now (take (prefix_len is_regular (drop 2 text)) (drop 2 text)) (2 + prefix_len is_regular (drop 2 text)) text
+read_now text =
+    named Now (take (prefix_len is_regular (drop 2 text)) (drop 2 text))
+    (2 + prefix_len is_regular (drop 2 text)) text
 
 -- the bytes of hexadecimal digits, of which half a byte is held
 unfoldable pub hex_bytes : Option ℕ → List ℕ → List ℕ
 hex_bytes None [] = []
 hex_bytes (Some high) [] = (16 * high) ∷ []
 hex_bytes None (c ∷ cs) = if is_hex c then hex_bytes (Some (digit_value c)) cs else hex_bytes None cs
-hex_bytes (Some high) (c ∷ cs) = if is_hex c then (16 * high + digit_value c) ∷ hex_bytes None cs else hex_bytes (Some high) cs
+hex_bytes (Some high) (c ∷ cs) =
+    if is_hex c then (16 * high + digit_value c) ∷ hex_bytes None cs else hex_bytes (Some high) cs
 
 abbrev pub hex_len : List ℕ → ℕ
 hex_len body = (count_by is_hex body + 1) / 2
 
 unfoldable pub hex_text : List ℕ → Reading
-hex_text body = if nat_le (hex_len body) 65535 then Found (Text (hex_bytes None body)) (length body + 2) else OverLimit
+hex_text body =
+    if nat_le (hex_len body) 65535 then Found (Text (hex_bytes None body)) (length body + 2) else OverLimit
 
 -- behind a less-than sign
 unfoldable pub read_hex : List ℕ → Reading
-read_hex text = if begins is_greater (drop (prefix_len is_hex_or_white text) text) then hex_text (take (prefix_len is_hex_or_white text) text) else Malformed
+read_hex text =
+    if begins is_greater (drop (prefix_len is_hex_or_white text) text)
+    then hex_text (take (prefix_len is_hex_or_white text) text)
+    else Malformed
 
 unfoldable pub read_less : List ℕ → List ℕ → Reading
 read_less [] text = Malformed
-read_less (c ∷ cs) text = if c == 60 then and_white (Exec (60 ∷ 60 ∷ [])) 2 text else read_hex (c ∷ cs)
+read_less (c ∷ cs) text =
+    if c == 60 then and_white (Exec (60 ∷ 60 ∷ [])) 2 text else read_hex (c ∷ cs)
 
 unfoldable pub read_greater : List ℕ → List ℕ → Reading
 read_greater [] text = Malformed
@@ -96,7 +107,10 @@ read_greater (c ∷ cs) text = if c == 62 then and_white (Exec (62 ∷ 62 ∷ []
 -- behind a left parenthesis
 unfoldable pub read_paren : List ℕ → Reading
 read_paren text =
-    if (walk Normal 0 text).closed then (if nat_le (length (walk Normal 0 text).bytes) 65535 then Found (Text (walk Normal 0 text).bytes) (1 + (walk Normal 0 text).used) else OverLimit)
+    if (walk Normal 0 text).closed
+    then (if nat_le (length (walk Normal 0 text).bytes) 65535
+    then Found (Text (walk Normal 0 text).bytes) (1 + (walk Normal 0 text).used)
+    else OverLimit)
     else Malformed
 
 -- behind a solidus

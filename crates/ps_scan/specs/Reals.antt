@@ -7,7 +7,8 @@ use Rattle.ps_scan.specs.Integers.{Sign, are_digits, decimal_value}
 use Rattle.ps_scan.specs.declared.numerals.Numeral.{Numeral}
 use Rattle.ps_scan.specs.declared.numerals.Numeral.TheVariants.{Decimal, TooGreat}
 
--- what a real is written with: its sign, the digits before and behind its point, and its exponent's sign and digits
+-- what a real is written with: its sign, the digits before and behind its point, and its exponent's
+-- sign and digits
 pub record Parts : Type 0 where
   pub negative : Bool
   pub whole : List ℕ
@@ -26,9 +27,12 @@ is_power_mark c = c == 101 || c == 69
 -- an exponent, or nothing: e or E, an optional sign, and digits
 pub data Power : List ℕ → Bool → List ℕ → Type 0 where
   NoPower : Power [] false []
-  APower : (mark : ℕ) (sign digits : List ℕ) (minus : Bool) → is_power_mark mark ≡ true → Sign sign minus → are_digits digits ≡ true → Power (mark ∷ (sign ++ digits)) minus digits
+  APower : (mark : ℕ) (sign digits : List ℕ) (minus : Bool)
+      → is_power_mark mark ≡ true → Sign sign minus → are_digits digits ≡ true
+      → Power (mark ∷ (sign ++ digits)) minus digits
 
--- digits with a point among, before or behind them and perhaps an exponent, or an integer with an exponent
+-- digits with a point among, before or behind them and perhaps an exponent, or an integer with an
+-- exponent
 pub record IsReal (run : List ℕ) (parts : Parts) : Type 0 where
   pub sign : List ℕ
   pub point : List ℕ
@@ -48,7 +52,8 @@ is_short parts = nat_le (length parts.whole + length parts.fraction) 30 && nat_l
 -- the raw value: the exact value in 1/65536, rounded once; None where it is out of range
 abbrev pub raw_of : Parts → Option ℤ
 raw_of parts =
-    decimal_of parts.negative (decimal_value (parts.whole ++ parts.fraction)) (signed parts.minus (decimal_value parts.power) -ℤ pos (length parts.fraction))
+    decimal_of parts.negative (decimal_value (parts.whole ++ parts.fraction))
+    (signed parts.minus (decimal_value parts.power) -ℤ pos (length parts.fraction))
 
 abbrev pub decimal_numeral : Option ℤ → Numeral
 decimal_numeral None = TooGreat

@@ -1,4 +1,5 @@
--- The body of a string, read a byte at a time.
+-- The body of a string, read a byte at a time. Own rule: the function that Strings is proved
+-- against.
 use Rattle.std.specs.Prelude.{ℕ, ◌+◌, ◌-◌, ◌*◌, ◌%◌, ◌==◌, ◌<◌, ◌≤◌, Bool, true, false, List, [], ◌∷◌, if◌then◌else◌, Option, Some, None}
 use Rattle.ps_scan.specs.Strings.{is_octal, escaped}
 use Rattle.ps_scan.specs.declared.strings.Inside.{Inside}
@@ -6,7 +7,8 @@ use Rattle.ps_scan.specs.declared.strings.Inside.TheVariants.{Normal, Return, Es
 use Rattle.ps_scan.specs.declared.strings.Does.{Does}
 use Rattle.ps_scan.specs.declared.strings.Does.TheVariants.{Ends, Goes, Waits}
 
--- the bytes meant, and how long the body is with its last parenthesis; a body that doesn't end is read to its end
+-- the bytes meant, and how long the body is with its last parenthesis; one that doesn't end is read
+-- to its end
 pub record Walk : Type 0 where
   pub closed : Bool
   pub used : ℕ
@@ -51,8 +53,12 @@ step Escape inner c =
     else if c == 10 then plain_step (Waits Normal inner)
     else if c == 13 then plain_step (Waits Return inner)
     else plain_step (Goes Normal inner (escaped c))
-step (One v) inner c = if is_octal c then plain_step (Waits (Two (8 * v + (c - 48))) inner) else record { first = Some v; does = normal inner c }
-step (Two v) inner c = if is_octal c then plain_step (Goes Normal inner ((8 * v + (c - 48)) % 256)) else record { first = Some v; does = normal inner c }
+step (One v) inner c =
+    if is_octal c then plain_step (Waits (Two (8 * v + (c - 48))) inner)
+    else record { first = Some v; does = normal inner c }
+step (Two v) inner c =
+    if is_octal c then plain_step (Goes Normal inner ((8 * v + (c - 48)) % 256))
+    else record { first = Some v; does = normal inner c }
 
 abbrev pub put_first : Option ℕ → Walk → Walk
 put_first None w = w
@@ -61,7 +67,8 @@ put_first (Some b) w = gives b w
 -- the walk through a body from its first byte
 unfoldable pub walk : Inside → ℕ → List ℕ → Walk
 walk inside inner [] = stop false 0
-walk inside inner (c ∷ cs) = put_first (step inside inner c).first (resume (step inside inner c).does (λ s i. walk s i cs))
+walk inside inner (c ∷ cs) =
+    put_first (step inside inner c).first (resume (step inside inner c).does (λ s i. walk s i cs))
 
 -- the value of one octal digit
 abbrev pub is_small : Inside → Type 0

@@ -23,17 +23,43 @@ unfoldable pub after_return : List ℕ → List ℕ
 after_return [] = []
 after_return (c ∷ cs) = if c == 10 then cs else c ∷ cs
 
--- the body of a string, inside so many parentheses: its text, the bytes meant, and the text behind its end
+-- the body of a string, inside so many parentheses: its text, the bytes meant, and the text behind
+-- its end
 pub data Body : ℕ → List ℕ → List ℕ → List ℕ → Type 0 where
   Closes : (rest : List ℕ) → Body 0 (41 ∷ rest) [] rest
-  ClosesInner : (inner : ℕ) (text bytes rest : List ℕ) → Body inner text bytes rest → Body (suc inner) (41 ∷ text) (41 ∷ bytes) rest
-  OpensInner : (inner : ℕ) (text bytes rest : List ℕ) → Body (suc inner) text bytes rest → Body inner (40 ∷ text) (40 ∷ bytes) rest
-  Plain : (inner c : ℕ) (text bytes rest : List ℕ) → is_plain c ≡ true → Body inner text bytes rest → Body inner (c ∷ text) (c ∷ bytes) rest
-  LineEnd : (inner : ℕ) (text bytes rest : List ℕ) → Body inner (after_return text) bytes rest → Body inner (13 ∷ text) (10 ∷ bytes) rest
-  DropsLine : (inner : ℕ) (text bytes rest : List ℕ) → Body inner text bytes rest → Body inner (92 ∷ 10 ∷ text) bytes rest
-  DropsReturn : (inner : ℕ) (text bytes rest : List ℕ) → Body inner (after_return text) bytes rest → Body inner (92 ∷ 13 ∷ text) bytes rest
-  Escaped : (inner c : ℕ) (text bytes rest : List ℕ) → is_escaped c ≡ true → Body inner text bytes rest → Body inner (92 ∷ c ∷ text) (escaped c ∷ bytes) rest
+  ClosesInner : (inner : ℕ) (text bytes rest : List ℕ)
+      → Body inner text bytes rest
+      → Body (suc inner) (41 ∷ text) (41 ∷ bytes) rest
+  OpensInner : (inner : ℕ) (text bytes rest : List ℕ)
+      → Body (suc inner) text bytes rest
+      → Body inner (40 ∷ text) (40 ∷ bytes) rest
+  Plain : (inner c : ℕ) (text bytes rest : List ℕ)
+      → is_plain c ≡ true
+      → Body inner text bytes rest
+      → Body inner (c ∷ text) (c ∷ bytes) rest
+  LineEnd : (inner : ℕ) (text bytes rest : List ℕ)
+      → Body inner (after_return text) bytes rest
+      → Body inner (13 ∷ text) (10 ∷ bytes) rest
+  DropsLine : (inner : ℕ) (text bytes rest : List ℕ)
+      → Body inner text bytes rest
+      → Body inner (92 ∷ 10 ∷ text) bytes rest
+  DropsReturn : (inner : ℕ) (text bytes rest : List ℕ)
+      → Body inner (after_return text) bytes rest
+      → Body inner (92 ∷ 13 ∷ text) bytes rest
+  Escaped : (inner c : ℕ) (text bytes rest : List ℕ)
+      → is_escaped c ≡ true
+      → Body inner text bytes rest
+      → Body inner (92 ∷ c ∷ text) (escaped c ∷ bytes) rest
   -- one to three octal digits, as many as stand there
-  OneOctal : (inner a : ℕ) (text bytes rest : List ℕ) → is_octal a ≡ true → begins is_octal text ≡ false → Body inner text bytes rest → Body inner (92 ∷ a ∷ text) ((a - 48) ∷ bytes) rest
-  TwoOctals : (inner a b : ℕ) (text bytes rest : List ℕ) → is_octal a ≡ true → is_octal b ≡ true → begins is_octal text ≡ false → Body inner text bytes rest → Body inner (92 ∷ a ∷ b ∷ text) ((8 * (a - 48) + (b - 48)) ∷ bytes) rest
-  ThreeOctals : (inner a b c : ℕ) (text bytes rest : List ℕ) → is_octal a ≡ true → is_octal b ≡ true → is_octal c ≡ true → Body inner text bytes rest → Body inner (92 ∷ a ∷ b ∷ c ∷ text) ((8 * (8 * (a - 48) + (b - 48)) + (c - 48)) % 256 ∷ bytes) rest
+  OneOctal : (inner a : ℕ) (text bytes rest : List ℕ)
+      → is_octal a ≡ true → begins is_octal text ≡ false
+      → Body inner text bytes rest
+      → Body inner (92 ∷ a ∷ text) ((a - 48) ∷ bytes) rest
+  TwoOctals : (inner a b : ℕ) (text bytes rest : List ℕ)
+      → is_octal a ≡ true → is_octal b ≡ true → begins is_octal text ≡ false
+      → Body inner text bytes rest
+      → Body inner (92 ∷ a ∷ b ∷ text) ((8 * (a - 48) + (b - 48)) ∷ bytes) rest
+  ThreeOctals : (inner a b c : ℕ) (text bytes rest : List ℕ)
+      → is_octal a ≡ true → is_octal b ≡ true → is_octal c ≡ true
+      → Body inner text bytes rest
+      → Body inner (92 ∷ a ∷ b ∷ c ∷ text) ((8 * (8 * (a - 48) + (b - 48)) + (c - 48)) % 256 ∷ bytes) rest

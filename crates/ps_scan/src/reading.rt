@@ -57,7 +57,8 @@ fn end_token(depth: u32) -> FrontToken
 /// `[` or `]`, as an executable name.
 fn bracket_token(c: u8, text: &[u8]) -> FrontToken
     requires { 1 ≤ length text.now }
-    ensures ok { IfOk result (λ found. and_white (Exec (c ∷ [])) 1 text.now ≡ Found found.0 found.1) }
+    ensures ok { IfOk result (λ found.
+        and_white (Exec (c ∷ [])) 1 text.now ≡ Found found.0 found.1) }
     ensures bound { IfOk result (λ found. found.1 ≤ length text.now) }
     ensures err { IfErr result (λ fault. IsRefusal fault (and_white (Exec (c ∷ [])) 1 text.now)) }
 {
@@ -70,9 +71,11 @@ fn bracket_token(c: u8, text: &[u8]) -> FrontToken
 /// `<<` or `>>`, as an executable name.
 fn pair_token(first: u8, second: u8, text: &[u8]) -> FrontToken
     requires { 2 ≤ length text.now }
-    ensures ok { IfOk result (λ found. and_white (Exec (first ∷ second ∷ [])) 2 text.now ≡ Found found.0 found.1) }
+    ensures ok { IfOk result (λ found.
+        and_white (Exec (first ∷ second ∷ [])) 2 text.now ≡ Found found.0 found.1) }
     ensures bound { IfOk result (λ found. found.1 ≤ length text.now) }
-    ensures err { IfErr result (λ fault. IsRefusal fault (and_white (Exec (first ∷ second ∷ [])) 2 text.now)) }
+    ensures err { IfErr result (λ fault.
+        IsRefusal fault (and_white (Exec (first ∷ second ∷ [])) 2 text.now)) }
 {
     match Name::of(&[first, second]) {
         Some(name) => Ok((Token::Exec(name), with_white(2, text))),

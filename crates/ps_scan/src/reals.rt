@@ -11,7 +11,8 @@ use crate::integers::{is_negative, is_number, small_value, without_sign};
 use crate::numerals::{Numeral, split_digits};
 use press_nums::{decimal_fix, power_of_ten};
 
-/// The digits behind a point, and what stands behind them; no digits where no point stands in front.
+/// The digits behind a point, and what stands behind them; no digits where no point stands in
+/// front.
 fn split_fraction(text: &[u8]) -> (&[u8], &[u8])
     ensures digits { result.0.now ≡ fraction_of text.now }
     ensures behind { result.1.now ≡ behind_fraction text.now }
@@ -90,13 +91,14 @@ fn mantissa(whole: &[u8], fraction: &[u8]) -> u128
     high * power_of_ten(fraction.len() as u32) + low
 }
 
-/// The power of ten by which the mantissa is multiplied: the exponent less the digits behind the point.
+/// The power of ten by which the mantissa is multiplied: the exponent less the digits behind the
+/// point.
 fn scale_of(minus: bool, power: &[u8], places: usize) -> i32
     requires places { places ≤ 30 }
     requires short { length power.now ≤ 4 }
     requires digits { list_all is_digit power.now ≡ true }
     ensures value { result ≡ signed minus (decimal_value power.now) -ℤ pos places }
-    ensures bound { unsigned_abs result ≤ 20000 }
+    ensures bound { unsigned_abs result ≤ 10030 }
 {
     let size = small_value(power) as i32;
     if minus {
@@ -112,7 +114,13 @@ fn value_of(negative: bool, whole: &[u8], fraction: &[u8], minus: bool, power: &
     requires fraction { list_all is_digit fraction.now ≡ true }
     requires power { list_all is_digit power.now ≡ true }
     requires fits { length whole.now + length fraction.now < 2 ^ 64 }
-    ensures { result ≡ real_numeral (record { negative = negative; whole = whole.now; fraction = fraction.now; minus = minus; power = power.now }) }
+    ensures { result ≡ real_numeral (record {
+      negative = negative;
+      whole = whole.now;
+      fraction = fraction.now;
+      minus = minus;
+      power = power.now;
+    }) }
 {
     if whole.len() + fraction.len() > 30 || power.len() > 4 {
         return Numeral::TooGreat;

@@ -17,7 +17,8 @@ use std::marker::Model;
 #[tactic(auto, unfolding(crate::specs::Reading::scanned))]
 fn scan(alloc: Global, depth: u32, text: &[u8]) -> FrontToken
     requires { length text.now < 2 ^ 63 }
-    ensures ok { IfOk result (λ found. scanned depth text.now ≡ Gives found.0 (drop found.1 text.now)) }
+    ensures ok { IfOk result (λ found.
+        scanned depth text.now ≡ Gives found.0 (drop found.1 text.now)) }
     ensures bound { IfOk result (λ found. found.1 ≤ length text.now) }
     ensures limits { IfOk result (λ found. IsWithinLimits depth found.0 (drop found.1 text.now)) }
     ensures err { IfErr result (λ fault. IsFaultOf fault (scanned depth text.now)) }
@@ -26,11 +27,12 @@ fn scan(alloc: Global, depth: u32, text: &[u8]) -> FrontToken
     let (_, start) = text.split_at(blank);
     match front_token(alloc, depth, start) {
         Ok((token, used)) => Ok((token, blank + used)),
-        Err(fault) => Err(fault),
+        Err(refusal) => Err(refusal),
     }
 }
 
-/// A program's text, and the place in it.
+/// A program's text and the place in it, which contracts see as the text that is left and the
+/// number of procedures open. No text is copied but the bytes of a string.
 #[derive(Drop)]
 pub struct Scanner {
     program: Vec<u8>,
@@ -46,7 +48,8 @@ impl Model for Scanner {
 
     ghost view = { λ s. record { depth = s.depth; rest = drop s.at s.program.items } };
 
-    ghost invariant = { λ s. (s.at ≤ vec_len s.program) × (vec_len s.program < 2 ^ 63) × (s.depth ≤ 64) };
+    ghost invariant = { λ s. (s.at ≤ vec_len s.program) × (vec_len s.program < 2 ^ 63)
+        × (s.depth ≤ 64) };
 }
 
 impl Scanner {
@@ -76,14 +79,24 @@ impl Scanner {
         text
     }
 
-    /// The next token.
+    /// The next token: that of the token grammar, and no other. The place goes behind it and the
+    /// white space that goes with it.
+    ///
+    /// Syntax and Limit come exactly where the grammar has them, and NoMemory only in place of a
+    /// string. After a refusal the place is as before. (PostScript Language Reference, third
+    /// edition, 3.2 Syntax.)
     pub fn next(&mut self, alloc: Global) -> Result<Token, ScanFault>
-        ensures ok { IfOk result (λ token. scanned self.old.depth self.old.rest ≡ Gives token self.new.rest) }
+        ensures ok { IfOk result (λ token.
+            scanned self.old.depth self.old.rest ≡ Gives token self.new.rest) }
         ensures depth { IfOk result (λ token. self.new.depth ≡ depth_after token self.old.depth) }
         ensures limits { IfOk result (λ token. IsWithinLimits self.old.depth token self.new.rest) }
-        ensures syntax { IsErrOf result ScanFault.Syntax ↔ (scanned self.old.depth self.old.rest ≡ BreaksSyntax) }
-        ensures limit { IsErrOf result ScanFault.Limit ↔ (scanned self.old.depth self.old.rest ≡ PassesLimit) }
-        ensures memory { IsErrOf result ScanFault.NoMemory → GivesText (scanned self.old.depth self.old.rest) }
+        ensures syntax { IsErrOf result ScanFault.Syntax
+            ↔ (scanned self.old.depth self.old.rest ≡ BreaksSyntax) }
+        ensures limit { IsErrOf result ScanFault.Limit
+            ↔ (scanned self.old.depth self.old.rest ≡ PassesLimit) }
+        // memory is asked for a string alone, so the two clauses above leave nothing open
+        ensures memory { IsErrOf result ScanFault.NoMemory
+            → GivesText (scanned self.old.depth self.old.rest) }
         ensures kept { OnErr result (self.new ≡ self.old) }
     {
         let (_, text) = self.program.split_at(self.at);
@@ -101,12 +114,15 @@ impl Scanner {
         }
     }
 
-    /// Puts up to `n` bytes behind the last token, and says how many.
+    /// Puts the bytes behind the last token, or behind what was taken since, at the front of
+    /// `into`: `n` of them, or as many as are left. The answer is their number. For `readstring`
+    /// (8.2).
     pub fn take(&mut self, n: usize, into: &mut [u8]) -> usize
         requires { n ≤ length into.old }
         ensures count { result ≡ min n (length self.old.rest) }
         ensures bytes { into.new ≡ list_take result self.old.rest ++ drop result into.old }
-        ensures place { self.new ≡ record { depth = self.old.depth; rest = drop result self.old.rest } }
+        ensures place { self.new
+            ≡ record { depth = self.old.depth; rest = drop result self.old.rest } }
     {
         let (_, text) = self.program.split_at(self.at);
         let count = n.min(text.len());
@@ -116,11 +132,18 @@ impl Scanner {
         count
     }
 
-    /// Puts the bytes of hexadecimal digits behind the last token, and says how many.
+    /// Fills `into` with the bytes that the hexadecimal digits behind the last token write in
+    /// pairs, and says how many. Other bytes are skipped. The place is then right behind the last
+    /// digit used; it is the program's end, where there are too few, and a last digit with no
+    /// partner is dropped. For `readhexstring` (8.2).
     pub fn take_hex(&mut self, into: &mut [u8]) -> usize
         ensures count { result ≡ hex_count (length into.old) self.old.rest }
-        ensures bytes { into.new ≡ hex_front (length into.old) self.old.rest ++ drop result into.old }
-        ensures place { self.new ≡ record { depth = self.old.depth; rest = behind_hex (2 * length into.old) self.old.rest } }
+        ensures bytes { into.new
+            ≡ hex_front (length into.old) self.old.rest ++ drop result into.old }
+        ensures place { self.new ≡ record {
+          depth = self.old.depth;
+          rest = behind_hex (2 * length into.old) self.old.rest;
+        } }
     {
         let (_, text) = self.program.split_at(self.at);
         let (put, used) = put_hex(text, into);

@@ -149,13 +149,16 @@ fn three_octals(v: u8, c: u8) -> u8
     ((8 * u16::from(v) + u16::from(c - 48)) % 256) as u8
 }
 
-/// How long a body is with its last parenthesis, and how many bytes it means; `None` where it doesn't end.
+/// How long a body is with its last parenthesis, and how many bytes it means; `None` where it
+/// doesn't end.
 #[tactic(auto, unfolding(crate::specs::StringReading::walk))]
 fn measure(text: &[u8]) -> Option<(usize, usize)>
     requires { length text.now < 2 ^ 63 }
     ensures bound { IfSome result (λ found. found.0 ≤ length text.now) }
     ensures value { MatchOption result ((walk Normal 0 text.now).closed ≡ false)
-        (λ found. ((walk Normal 0 text.now).closed ≡ true) × (found.0 ≡ (walk Normal 0 text.now).used) × (found.1 ≡ length (walk Normal 0 text.now).bytes)) }
+        (λ found. ((walk Normal 0 text.now).closed ≡ true)
+        × (found.0 ≡ (walk Normal 0 text.now).used)
+        × (found.1 ≡ length (walk Normal 0 text.now).bytes)) }
 {
     let mut inside = Inside::Normal;
     let mut inner: usize = 0;
@@ -211,8 +214,8 @@ fn bytes_of_body(alloc: Global, text: &[u8], count: usize) -> Mem<Bytes>
     Ok(bytes)
 }
 
-/// A string in parentheses; `text` is what stands behind the first of them. The whole string is read
-/// before its length is asked, and its length before memory is.
+/// A string in parentheses; `text` is what stands behind the first of them. The whole string is
+/// read before its length is asked, and its length before memory is.
 #[tactic(auto, unfolding(crate::specs::Reading::read_paren))]
 pub(crate) fn paren_token(alloc: Global, text: &[u8]) -> FrontToken
     requires { length text.now < 2 ^ 63 }

@@ -6,6 +6,9 @@ use press_nums::{Fix, Whole};
 use std::alloc::Global;
 use std::marker::Model;
 
+/// The most bytes of a string.
+pub const TEXT_LIMIT: usize = 65535;
+
 /// The bytes of a string.
 #[derive(Drop)]
 pub struct Bytes {
@@ -89,8 +92,8 @@ pub enum Token {
 pub enum ScanFault {
     /// An unclosed string or procedure, a lone `)`, `>` or `}`, another byte in `< >`, or `<~`.
     Syntax,
-    /// A number out of its range or with too many digits, a name of over 127 bytes, a string of over
-    /// 65,535 bytes, or a `{` where 64 procedures are open.
+    /// A number out of its range or with too many digits, a name of over 127 bytes, a string of
+    /// over 65,535 bytes, or a `{` where 64 procedures are open.
     Limit,
     /// Out of memory for a string's bytes.
     NoMemory,
@@ -98,6 +101,3 @@ pub enum ScanFault {
 
 /// The token at the front of a text and how many bytes it takes, or why there is none.
 pub(crate) type FrontToken = Result<(Token, usize), ScanFault>;
-
-/// The most bytes of a string.
-pub(crate) const TEXT_LIMIT: usize = 65535;

@@ -39,9 +39,11 @@ fn number_token(numeral: Numeral, run: &[u8], text: &[u8]) -> FrontToken
 #[tactic(auto, unfolding(crate::specs::Reading::named))]
 fn exec_token(run: &[u8], text: &[u8]) -> FrontToken
     requires within { length run.now ≤ length text.now }
-    ensures ok { IfOk result (λ found. named Exec run.now (length run.now) text.now ≡ Found found.0 found.1) }
+    ensures ok { IfOk result (λ found.
+        named Exec run.now (length run.now) text.now ≡ Found found.0 found.1) }
     ensures bound { IfOk result (λ found. found.1 ≤ length text.now) }
-    ensures err { IfErr result (λ fault. IsRefusal fault (named Exec run.now (length run.now) text.now)) }
+    ensures err { IfErr result (λ fault.
+        IsRefusal fault (named Exec run.now (length run.now) text.now)) }
 {
     match Name::of(run) {
         Some(name) => Ok((Token::Exec(name), with_white(run.len(), text))),
