@@ -1,0 +1,5 @@
+pub mod CurveLemmas
+pub mod CountLemmas
+pub mod FlatLemmas
+pub mod AngleLemmas
+pub mod PointLemmas

@@ -1,0 +1,36 @@
+-- Flattened paths (PostScript Language Reference, third edition, 8.2 `flattenpath`).
+use Rattle.std.specs.Prelude.{Bool, List, [], ◌∷◌, ◌++◌, map}
+use Rattle.std.specs.List.{All}
+use Rattle.press_fault.specs.Plane.{Spot}
+use Rattle.geo_matrix.specs.Affine.{IsNear}
+use Rattle.geo_path.specs.declared.segment.Segment.{Segment}
+use Rattle.geo_path.specs.declared.segment.Segment.TheVariants.{Line, Curve}
+use Rattle.geo_path.specs.Path.{SubpathValue, PathValue, end_of, subpaths_of}
+use Rattle.geo_path.specs.Curve.{curve_points}
+
+-- a chain of straight lines, and whether it is closed
+pub record LineValue : Type 0 where
+  pub points : List Spot
+  pub closed : Bool
+
+-- each point is one that a path may have
+abbrev pub IsNearLine : LineValue → Type 0
+IsNearLine line = All IsNear line.points
+
+-- the points that a segment adds, from where it begins
+abbrev pub added_by : Spot → Segment → List Spot
+added_by at (Line p) = p ∷ []
+added_by at (Curve q r s) = curve_points at q r s
+
+-- the points that segments add, one after the other
+abbrev pub added_from : Spot → List Segment → List Spot
+added_from at [] = []
+added_from at (segment ∷ rest) = added_by at segment ++ added_from (end_of segment) rest
+
+-- a subpath, flattened
+abbrev pub flat : SubpathValue → LineValue
+flat s = record { points = s.start ∷ added_from s.start s.segments; closed = s.closed }
+
+-- a path, flattened
+abbrev pub lines_of : PathValue → List LineValue
+lines_of path = map flat (subpaths_of path)

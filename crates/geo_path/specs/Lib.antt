@@ -1,0 +1,5 @@
+pub mod Curve
+pub mod Path
+pub mod Arc
+pub mod Flat
+pub mod Points

@@ -1,0 +1,136 @@
+//! Flattened paths.
+ghost use Rattle.std.specs.Prelude.{◌≡◌, [], ◌∷◌, ◌++◌, map, OnOk, OnErr, IfOk};
+ghost use Rattle.std.specs.List.{All};
+ghost use Rattle.geo_matrix.specs.Affine.{IsNear};
+ghost use Rattle.geo_path.specs.Flat.{LineValue, IsNearLine, added_by, flat, lines_of};
+ghost use Rattle.geo_path.specs.Path.{IsNearSegment};
+
+use crate::curve::{Curve, push_curve};
+use crate::path::Path;
+use crate::segment::Segment;
+use crate::subpath::Subpath;
+use page_model::{Ring, Rings};
+use press_fault::{Mem, Point};
+use std::alloc::Global;
+use std::marker::Model;
+
+/// A chain of straight lines by its points, and whether it is closed.
+#[derive(Drop)]
+pub struct Line {
+    pub points: Ring,
+    pub closed: bool,
+}
+
+impl Model for Line {
+    ghost use Rattle.geo_path.specs.Flat.{LineValue};
+
+    ghost Value = { LineValue };
+
+    ghost view = { λ l. record { points = l.points; closed = l.closed } };
+}
+
+/// Chains of lines, each point of a magnitude below 2^31 sub-dots.
+#[derive(Drop)]
+pub struct Lines {
+    lines: Vec<Line>,
+}
+
+impl Model for Lines {
+    ghost use Rattle.std.specs.Prelude.{List};
+    ghost use Rattle.std.specs.List.{All};
+    ghost use Rattle.geo_path.specs.Flat.{LineValue, IsNearLine};
+
+    ghost Value = { List LineValue };
+
+    ghost view = { λ l. l.lines.items };
+
+    ghost invariant = { λ l. All IsNearLine l.lines.items };
+}
+
+impl Lines {
+    pub fn new(alloc: Global) -> Lines
+        ensures { result ≡ [] }
+    {
+        Lines {
+            lines: Vec::new(alloc),
+        }
+    }
+
+    /// Adds a chain of lines at the end.
+    pub fn push(&mut self, line: Line) -> Mem<()>
+        requires { IsNearLine line }
+        ensures ok { OnOk result (self.new ≡ self.old ++ line ∷ []) }
+        ensures err { OnErr result (self.new ≡ self.old) }
+    {
+        self.lines.push(line)?;
+        Ok(())
+    }
+
+    pub fn items(&self) -> &[Line]
+        ensures value { result.now ≡ self.now }
+        ensures near { All IsNearLine result.now }
+    {
+        &self.lines
+    }
+}
+
+impl Path {
+    /// The path as straight lines: a chain for each subpath, the curves cut into pieces.
+    pub fn flatten(&self) -> Mem<Lines>
+        ensures { IfOk result (λ lines. lines ≡ lines_of self.now) }
+    {
+        let mut lines = Lines::new(self.alloc());
+        for subpath in self.parts().before() {
+            lines.push(flatten_subpath(self.alloc(), subpath)?)?;
+        }
+        if let Some(last) = self.parts().last() {
+            lines.push(flatten_subpath(self.alloc(), last)?)?;
+        }
+        Ok(lines)
+    }
+}
+
+fn flatten_subpath(alloc: Global, s: &Subpath) -> Mem<Line>
+    ensures value { IfOk result (λ line. line ≡ flat s.now) }
+    ensures near { IfOk result (λ line. IsNearLine line) }
+{
+    let _segments = s.segments();
+    let points = points_of(alloc, s)?;
+    Ok(Line {
+        points,
+        closed: s.is_closed(),
+    })
+}
+
+fn points_of(alloc: Global, s: &Subpath) -> Mem<Ring>
+    ensures { IfOk result (λ points. points ≡ (flat s.now).points) }
+{
+    let mut points = Ring::new(alloc);
+    points.push(s.start())?;
+    let mut at = s.start();
+    for segment in s.segments() {
+        push_segment(&mut points, at, segment)?;
+        at = segment.end();
+    }
+    Ok(points)
+}
+
+/// Adds the points of a segment behind `at`, where it begins.
+fn push_segment(points: &mut Ring, at: Point, segment: &Segment) -> Mem<()>
+    requires at { IsNear at }
+    requires near { IsNearSegment segment.now }
+    ensures ok { OnOk result (points.new ≡ points.old ++ added_by at segment.now) }
+{
+    match segment {
+        Segment::Line(p) => points.push(*p),
+        Segment::Curve(q, r, s) => {
+            let curve = Curve {
+                p0: at,
+                p1: *q,
+                p2: *r,
+                p3: *s,
+            };
+            push_curve(points, &curve)
+        }
+    }
+}

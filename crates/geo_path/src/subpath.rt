@@ -1,0 +1,91 @@
+//! One subpath.
+ghost use Rattle.std.specs.Prelude.{◌≡◌, false, OnOk, OnErr};
+ghost use Rattle.std.specs.List.{All};
+ghost use Rattle.geo_matrix.specs.Affine.{IsNear};
+ghost use Rattle.geo_path.specs.Path.{SubpathValue, IsNearSegment, IsNearSubpath, subpath_current, opened, continued, closed_subpath};
+
+use crate::segment::Segment;
+use press_fault::{Mem, Point};
+use std::alloc::Global;
+use std::marker::Model;
+
+/// A first point, what goes on from there, and whether it is closed.
+#[derive(Drop)]
+pub(crate) struct Subpath {
+    start: Point,
+    segments: Vec<Segment>,
+    /// Where the last segment ends.
+    end: Point,
+    closed: bool,
+}
+
+impl Model for Subpath {
+    ghost use Rattle.geo_path.specs.Path.{SubpathValue, IsKept};
+
+    ghost Value = { SubpathValue };
+
+    ghost view = { λ s. record { start = s.start; segments = s.segments.items; closed = s.closed } };
+
+    ghost invariant = { λ s. IsKept s.end (record { start = s.start; segments = s.segments.items; closed = s.closed }) };
+}
+
+impl Subpath {
+    pub fn new(alloc: Global, start: Point) -> Subpath
+        requires { IsNear start }
+        ensures { result ≡ opened start }
+    {
+        Subpath {
+            start,
+            segments: Vec::new(alloc),
+            end: start,
+            closed: false,
+        }
+    }
+
+    pub fn is_closed(&self) -> bool
+        ensures { result ≡ self.now.closed }
+    {
+        self.closed
+    }
+
+    pub fn start(&self) -> Point
+        ensures value { result ≡ self.now.start }
+        ensures near { IsNear result }
+    {
+        self.start
+    }
+
+    pub fn segments(&self) -> &[Segment]
+        ensures items { result.now ≡ self.now.segments }
+        ensures near { IsNearSubpath self.now }
+    {
+        &self.segments
+    }
+
+    /// The current point.
+    pub fn current(&self) -> Point
+        ensures { result ≡ subpath_current self.now }
+    {
+        if self.closed { self.start } else { self.end }
+    }
+
+    pub fn close(&mut self)
+        ensures { self.new ≡ closed_subpath self.old }
+    {
+        self.closed = true;
+    }
+
+    /// Adds segments to an open subpath.
+    pub fn extend(&mut self, more: &[Segment]) -> Mem<()>
+        requires open { self.old.closed ≡ false }
+        requires near { All IsNearSegment more.now }
+        ensures ok { OnOk result (self.new ≡ continued self.old more.now) }
+        ensures err { OnErr result (self.new ≡ self.old) }
+    {
+        self.segments.extend_from_slice(more)?;
+        if let Some(last) = more.last() {
+            self.end = last.end();
+        }
+        Ok(())
+    }
+}
