@@ -1,0 +1,16 @@
+//! Row spans of filled shapes: the columns of a row whose dot centres a shape holds.
+//!
+//! Proved against `specs/Spans.antt`; when a shape holds a centre is defined with the page
+//! (`page_model/specs/Inside.antt` and `Cover.antt`). Start with `span.rt`, then `row.rt`.
+//! Rows and columns count dots.
+#![tactic(auto)]
+
+mod laws;
+mod row;
+mod span;
+#[cfg(test)]
+mod tests;
+
+pub use laws::columns_have_one_list_of_spans;
+pub use row::spans;
+pub use span::{Span, Spans};

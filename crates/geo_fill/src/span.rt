@@ -1,0 +1,77 @@
+ghost use Rattle.std.specs.Prelude.{◌≡◌, [], ◌∷◌, ◌++◌, OnOk, OnErr};
+ghost use Rattle.geo_fill.specs.Spans.{EndBefore};
+
+use press_fault::Mem;
+use std::alloc::Global;
+use std::marker::Model;
+
+/// The columns from `first` up to and without `end` of one row. A span is never empty.
+#[derive(Clone, Copy, Debug, PartialEq, Eq)]
+pub struct Span {
+    pub first: u32,
+    pub end: u32,
+}
+
+impl Model for Span {
+    ghost use Rattle.std.specs.Prelude.{◌<◌};
+    ghost use Rattle.geo_fill.specs.Spans.{Interval};
+
+    ghost Value = { Interval };
+
+    ghost view = { λ s. record { first = s.first; end = s.end } };
+
+    ghost invariant = { λ s. s.first < s.end };
+
+    ghost inverse = { λ v. record { first = v.first; end = v.end } };
+}
+
+/// Spans of one row: they rise, and leave a gap between each and the next.
+#[derive(Drop)]
+pub struct Spans {
+    spans: Vec<Span>,
+}
+
+impl Model for Spans {
+    ghost use Rattle.std.specs.Prelude.{List};
+    ghost use Rattle.geo_fill.specs.Spans.{Interval, AreApart};
+
+    ghost Value = { List Interval };
+
+    ghost view = { λ s. s.spans.items };
+
+    ghost invariant = { λ s. AreApart s.spans.items };
+}
+
+impl Spans {
+    pub fn new(alloc: Global) -> Self
+        ensures { result ≡ [] }
+    {
+        Spans {
+            spans: Vec::new(alloc),
+        }
+    }
+
+    /// Adds a span behind all others; each of them ends before its first column.
+    #[tactic(auto, using(crate::proofs::Apart::apart_more))]
+    pub fn push(&mut self, span: Span) -> Mem<()>
+        requires { EndBefore span.first self.old }
+        ensures ok { OnOk result (self.new ≡ self.old ++ span ∷ []) }
+        ensures err { OnErr result (self.new ≡ self.old) }
+    {
+        self.spans.push(span)?;
+        Ok(())
+    }
+
+    /// Takes all spans away, and keeps the room.
+    pub fn clear(&mut self)
+        ensures { self.new ≡ [] }
+    {
+        self.spans.clear();
+    }
+
+    pub fn items(&self) -> &[Span]
+        ensures { result.now ≡ self.now }
+    {
+        &self.spans
+    }
+}

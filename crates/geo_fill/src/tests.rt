@@ -1,0 +1,215 @@
+//! Rows of shapes whose spans are found by hand.
+ghost use Rattle.std.specs.Prelude.{◌≤◌};
+
+use super::*;
+use page_model::{Disc, Ring, Rings, Rule, Shape};
+use press_fault::{Mem, Point};
+use std::alloc::Global;
+use std::test::Fail;
+
+fn ring(alloc: Global, corners: &[(u16, u16)]) -> Mem<Ring> {
+    let mut ring = Ring::new(alloc);
+    for (x, y) in corners {
+        ring.push(Point::new(i64::from(*x), i64::from(*y)))?;
+    }
+    Ok(ring)
+}
+
+/// A polygon of one or two rings; corners are in sub-dots.
+fn polygon(alloc: Global, first: &[(u16, u16)], second: &[(u16, u16)]) -> Mem<Shape> {
+    let mut rings = Rings::new(alloc);
+    rings.push(ring(alloc, first)?)?;
+    rings.push(ring(alloc, second)?)?;
+    Ok(Shape::Poly(rings))
+}
+
+/// The spans of a row as pairs, in a list that had another row's before.
+fn found(
+    alloc: Global,
+    shape: &Shape,
+    rule: Rule,
+    row: u32,
+    from: u32,
+    to: u32,
+) -> Mem<Vec<(u32, u32)>>
+    requires { from ≤ to }
+{
+    let mut out = Spans::new(alloc);
+    spans(shape, rule, 1, 0, 4, &mut out)?;
+    spans(shape, rule, row, from, to, &mut out)?;
+    let mut pairs = Vec::new(alloc);
+    for span in out.items() {
+        pairs.push((span.first, span.end))?;
+    }
+    Ok(pairs)
+}
+
+const NONE: &[(u32, u32)] = &[];
+
+#[test]
+fn rows_have_the_columns_of_a_polygon(rt: HostRuntime) -> Result<(), Fail> {
+    let low: &[(u16, u16)] = &[(128, 896), (640, 896), (128, 384)];
+    let high: &[(u16, u16)] = &[(640, 896), (640, 384), (128, 384)];
+    let outer: &[(u16, u16)] = &[(0, 1024), (1024, 1024), (1024, 0), (0, 0)];
+    let inner: &[(u16, u16)] = &[(256, 768), (768, 768), (768, 256), (256, 256)];
+    let centres: &[(u16, u16)] = &[(128, 640), (640, 640), (640, 128), (128, 128)];
+    let star: &[(u16, u16)] = &[(1152, 0), (1920, 2304), (0, 870), (2304, 870), (384, 2304)];
+    let nothing: &[(u16, u16)] = &[];
+    let (nonzero, even_odd) = (Rule::Nonzero, Rule::EvenOdd);
+    let cases = [
+        ("lower triangle, row 1", low, nothing, nonzero, 1, NONE),
+        ("lower triangle, row 2", low, nothing, nonzero, 2, &[(0, 1)]),
+        ("lower triangle, row 3", low, nothing, nonzero, 3, NONE),
+        ("upper triangle, row 0", high, nothing, nonzero, 0, NONE),
+        (
+            "upper triangle, row 1",
+            high,
+            nothing,
+            nonzero,
+            1,
+            &[(0, 2)],
+        ),
+        (
+            "upper triangle, row 2",
+            high,
+            nothing,
+            nonzero,
+            2,
+            &[(1, 2)],
+        ),
+        (
+            "nested squares, row 0",
+            outer,
+            inner,
+            even_odd,
+            0,
+            &[(0, 4)],
+        ),
+        (
+            "nested squares, row 1",
+            outer,
+            inner,
+            even_odd,
+            1,
+            &[(0, 1), (3, 4)],
+        ),
+        (
+            "nested squares, nonzero",
+            outer,
+            inner,
+            nonzero,
+            1,
+            &[(0, 4)],
+        ),
+        (
+            "a ring given twice, nonzero",
+            outer,
+            outer,
+            nonzero,
+            2,
+            &[(0, 4)],
+        ),
+        (
+            "a ring given twice, even-odd",
+            outer,
+            outer,
+            even_odd,
+            2,
+            NONE,
+        ),
+        (
+            "edges through centres, row 0",
+            centres,
+            nothing,
+            nonzero,
+            0,
+            &[(0, 2)],
+        ),
+        (
+            "edges through centres, row 2",
+            centres,
+            nothing,
+            nonzero,
+            2,
+            NONE,
+        ),
+        ("a star's top", star, nothing, even_odd, 2, &[(4, 5)]),
+        (
+            "a star's middle, nonzero",
+            star,
+            nothing,
+            nonzero,
+            4,
+            &[(1, 8)],
+        ),
+        (
+            "a star's middle, even-odd",
+            star,
+            nothing,
+            even_odd,
+            4,
+            &[(1, 3), (6, 8)],
+        ),
+        (
+            "a star's feet",
+            star,
+            nothing,
+            nonzero,
+            7,
+            &[(2, 4), (5, 7)],
+        ),
+        (
+            "one point and two",
+            &[(128, 128)],
+            &[(0, 0), (900, 900)],
+            nonzero,
+            1,
+            NONE,
+        ),
+    ];
+    for (name, first, second, rule, row, expected) in cases {
+        let shape = polygon(rt.alloc(), first, second)?;
+        let pairs = found(rt.alloc(), &shape, rule, row, 0, 12)?;
+        assert_eq!(rt; pairs.as_slice(), expected, "{name}");
+    }
+    Ok(())
+}
+
+#[test]
+fn spans_stay_in_their_range(rt: HostRuntime) -> Result<(), Fail> {
+    let square = polygon(
+        rt.alloc(),
+        &[(0, 1024), (1024, 1024), (1024, 0), (0, 0)],
+        &[],
+    )?;
+    let cases = [
+        ("inside the square", 1, 3, [(1, 3)].as_slice()),
+        ("over its right side", 2, 6, &[(2, 4)]),
+        ("its last column", 3, 4, &[(3, 4)]),
+        ("right of it", 4, 6, NONE),
+        ("no column", 2, 2, NONE),
+    ];
+    for (name, from, to, expected) in cases {
+        assert!(rt; from <= to);
+        let pairs = found(rt.alloc(), &square, Rule::Nonzero, 0, from, to)?;
+        assert_eq!(rt; pairs.as_slice(), expected, "{name}");
+    }
+    Ok(())
+}
+
+#[test]
+fn a_disc_has_a_span_in_each_of_its_rows(rt: HostRuntime) -> Result<(), Fail> {
+    let disc = Shape::Disc(Disc::new(Point::new(512, 512), 405));
+    let cases = [
+        (0, [(1, 3)].as_slice()),
+        (1, &[(0, 4)]),
+        (2, &[(0, 4)]),
+        (3, &[(1, 3)]),
+        (4, NONE),
+    ];
+    for (row, expected) in cases {
+        let pairs = found(rt.alloc(), &disc, Rule::EvenOdd, row, 0, 4)?;
+        assert_eq!(rt; pairs.as_slice(), expected, "row {row}");
+    }
+    Ok(())
+}
