@@ -117,8 +117,8 @@ fn programs_write_their_pages_and_their_line(rt: HostRuntime) -> Result<(), Fail
             "an integer of seven digits",
             "1234567",
             b"".as_slice(),
-            1,
-            "render: undefined in 1234567\n",
+            0,
+            "",
             0,
         ),
     ];
@@ -337,4 +337,250 @@ fn a_failing_line_changes_no_answer(rt: HostRuntime) -> Result<(), Fail> {
         assert_eq!(rt; Some(outcome.err.bytes()), line.get(..room), "at {room}");
     }
     Ok(())
+}
+
+/// The pages of a program on a page of some size, as letters: W, B and R are white, black and red dots, a space
+/// stands between rows, and `?` for another dot; and then the line on standard error.
+#[test]
+fn programs_mean_what_the_language_says(rt: HostRuntime) -> Result<(), Fail> {
+    let cases = [
+        (
+            "arithmetic",
+            "2x1",
+            "1 0 0 setrgbcolor 7 -2 idiv -3 eq -7 2 mod -1 eq and {0 0 1 1 rectfill} if showpage",
+            "RW",
+            "",
+        ),
+        (
+            "a caught error",
+            "4x2",
+            "{1 0 div} stopped {1 0 0 setrgbcolor} if 0 0 4 2 rectfill showpage",
+            "RRRRRRRR",
+            "",
+        ),
+        (
+            "exit in stopped",
+            "1x1",
+            "{exit} stopped {showpage} if",
+            "W",
+            "",
+        ),
+        (
+            "exit alone",
+            "1x1",
+            "exit",
+            "",
+            "render: invalidexit in exit\n",
+        ),
+        (
+            "a procedure by its name",
+            "1x1",
+            "/w {showpage} def w",
+            "W",
+            "",
+        ),
+        (
+            "65,536 bytes",
+            "1x1",
+            "65536 string",
+            "",
+            "render: limitcheck in string\n",
+        ),
+        (
+            "an unclosed procedure",
+            "1x1",
+            "{",
+            "",
+            "render: syntaxerror in scan\n",
+        ),
+        (
+            "a lone brace",
+            "1x1",
+            "}",
+            "",
+            "render: syntaxerror in scan\n",
+        ),
+        (
+            "an immediate name that is not there",
+            "1x1",
+            "//zz",
+            "",
+            "render: undefined in zz\n",
+        ),
+        (
+            "an empty immediate name",
+            "1x1",
+            "//",
+            "",
+            "render: undefined in \n",
+        ),
+        (
+            "an immediate operator",
+            "1x1",
+            "1 //add",
+            "",
+            "render: stackunderflow in add\n",
+        ),
+        (
+            "an immediate procedure is pushed",
+            "1x1",
+            "/p {1} def //p xcheck {0 0 1 1 rectfill} if showpage",
+            "B",
+            "",
+        ),
+        (
+            "a nested procedure is an element",
+            "1x1",
+            "{{1}} exec xcheck {0 0 1 1 rectfill} if showpage",
+            "B",
+            "",
+        ),
+        (
+            "a name that leads to a name",
+            "1x1",
+            "/a /b cvx def a",
+            "",
+            "render: undefined in b\n",
+        ),
+        (
+            "a name that leads to an operator",
+            "1x1",
+            "/p /add cvx def p",
+            "",
+            "render: stackunderflow in add\n",
+        ),
+        (
+            "stop",
+            "1x1",
+            "{stop} stopped {0 0 1 1 rectfill} if showpage",
+            "B",
+            "",
+        ),
+        (
+            "stop alone",
+            "1x1",
+            "stop",
+            "",
+            "render: invalidexit in stop\n",
+        ),
+        (
+            "exec of a name",
+            "1x1",
+            "/zz cvx exec",
+            "",
+            "render: undefined in zz\n",
+        ),
+        (
+            "too many levels",
+            "1x1",
+            "/w {w} def w",
+            "",
+            "render: execstackoverflow in w\n",
+        ),
+        ("quit", "1x1", "showpage quit showpage", "W", ""),
+        (
+            "a loop with no room for what it pushes",
+            "1x1",
+            "1 0 2 {} for",
+            "",
+            "render: stackoverflow in for\n",
+        ),
+        (
+            "stopped with no room",
+            "1x1",
+            "499 {1} repeat {{1 1} stopped} stopped",
+            "",
+            "render: stackoverflow in stopped\n",
+        ),
+        (
+            "all operators",
+            "1x1",
+            "systemdict length 92 eq {0 0 1 1 rectfill} if showpage",
+            "B",
+            "",
+        ),
+        (
+            "the first operator",
+            "1x1",
+            "systemdict {pop /pop eq exit} forall {0 0 1 1 rectfill} if showpage",
+            "B",
+            "",
+        ),
+        (
+            "reading from the program",
+            "1x1",
+            "/r {currentfile 3 string readstring pop} def r abc(abc) eq {0 0 1 1 rectfill} if showpage",
+            "B",
+            "",
+        ),
+        (
+            "a half gray",
+            "1x1",
+            ".5 setgray currentgray 2 mul 1.00392 sub abs .001 lt {0 0 1 1 rectfill} if showpage",
+            "?",
+            "",
+        ),
+        (
+            "too far away",
+            "1x1",
+            "99999999 0 1 1 rectfill",
+            "",
+            "render: limitcheck in rectfill\n",
+        ),
+        (
+            "a sum out of range",
+            "1x1",
+            "99999999 2147483647 0 1 rectfill",
+            "",
+            "render: undefinedresult in rectfill\n",
+        ),
+        (
+            "erased",
+            "1x1",
+            "0 0 1 1 rectfill erasepage showpage",
+            "W",
+            "",
+        ),
+        (
+            "colours of four inks",
+            "1x1",
+            "0 1 1 0 setcmykcolor 0 0 1 1 rectfill showpage",
+            "R",
+            "",
+        ),
+    ];
+    for (name, size, program, dots, line) in cases {
+        let words = ["--size", size, "p.ps"];
+        let outcome = run(&rt, &words, Some(program.as_bytes()), &AMPLE, &AMPLE)?;
+        assert_eq!(rt; letters(&rt, outcome.out.bytes())?.as_str(), dots, "{name}");
+        assert_eq!(rt; outcome.err.bytes(), line.as_bytes(), "{name}");
+    }
+    Ok(())
+}
+
+/// The dots of the first page as letters.
+fn letters(rt: &HostRuntime, bytes: &[u8]) -> Result<String, Fail> {
+    let mut text = String::new(rt.alloc());
+    let mut lines = 0;
+    let mut at = 0;
+    for (i, byte) in bytes.iter().enumerate() {
+        if lines < 3 && *byte == b'\n' {
+            lines += 1;
+            at = i + 1;
+        }
+    }
+    let (_, dots) = bytes.split_at(at.min(bytes.len()));
+    for dot in dots.chunks(3) {
+        text.push(letter(dot))?;
+    }
+    Ok(text)
+}
+
+fn letter(dot: &[u8]) -> char {
+    match dot {
+        [255, 255, 255] => 'W',
+        [255, 0, 0] => 'R',
+        [0, 0, 0] => 'B',
+        _ => '?',
+    }
 }
