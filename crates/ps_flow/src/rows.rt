@@ -225,12 +225,22 @@ fn forall_elements(
     if flow.is_full() {
         return Err(OpFault::Ps(PsName::ExecStackOverflow));
     }
-    let Ok(items) = store.elements(over) else {
+    let Ok(items) = contents(flow.alloc(), store, over) else {
         return Err(OpFault::NoMemory);
     };
     let rest = nothing_of(body);
     let left = Objects::of(items);
     open(stack, flow, 2, Level::Forall { left, body, rest }, None)
+}
+
+/// The elements of an array, or the bytes of a string as integers, in order.
+fn contents(alloc: Global, store: &Store, over: Span) -> Mem<Vec<Obj>>
+    ensures { IfOk result (λ items. items.items ≡ elements store.now over) }
+{
+    let items = (0..over.len)
+        .map(|at| store.get(over, at))
+        .collect(alloc)?;
+    Ok(items)
 }
 
 /// Opens the level of a `forall` over a dictionary, in the place of two operands.
