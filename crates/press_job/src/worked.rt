@@ -46,17 +46,17 @@ struct Outcome {
     err: MemSink,
 }
 
-/// Runs the job over a shelf that holds `program` as `p.ps`, where there is one.
+/// Runs the job with the words of a text, cut at single spaces, over a shelf that holds `program` as `p.ps`, where there is one.
 fn run(
     rt: &HostRuntime,
-    words: &[&str],
+    words: &str,
     program: Option<&[u8]>,
     out: &Limits,
     err: &Limits,
 ) -> Result<Outcome, Fail> {
     let alloc = rt.alloc();
     let mut list = Words::new(alloc);
-    for word in words {
+    for word in words.split(' ') {
         list.push(word)?;
     }
     let mut files = Vec::new(alloc);
@@ -123,8 +123,8 @@ fn programs_write_their_pages_and_their_line(rt: HostRuntime) -> Result<(), Fail
         ),
     ];
     for (name, program, bytes, number, line, shown) in cases {
-        let words = ["--size", "4x2", "p.ps"];
-        let outcome = run(&rt, &words, Some(program.as_bytes()), &AMPLE, &AMPLE)?;
+        let words = "--size 4x2 p.ps";
+        let outcome = run(&rt, words, Some(program.as_bytes()), &AMPLE, &AMPLE)?;
         assert_eq!(rt; outcome.number, number, "{name}");
         assert_eq!(rt; outcome.shown, shown, "{name}");
         assert_eq!(rt; outcome.out.bytes(), bytes, "{name}");
@@ -135,7 +135,7 @@ fn programs_write_their_pages_and_their_line(rt: HostRuntime) -> Result<(), Fail
 
 #[test]
 fn a_failing_write_leaves_the_bytes_before_it(rt: HostRuntime) -> Result<(), Fail> {
-    let words = ["--size", "4x2", "p.ps"];
+    let words = "--size 4x2 p.ps";
     let text = "render: cannot write output\n";
     // Each byte of the page is one write of its own, so write k follows k bytes.
     for k in 0..35usize {
@@ -150,7 +150,7 @@ fn a_failing_write_leaves_the_bytes_before_it(rt: HostRuntime) -> Result<(), Fai
             failing: None,
         };
         for limits in [by_number, by_room] {
-            let outcome = run(&rt, &words, Some(RED_ROW.as_bytes()), &limits, &AMPLE)?;
+            let outcome = run(&rt, words, Some(RED_ROW.as_bytes()), &limits, &AMPLE)?;
             assert_eq!(rt; outcome.number, 4, "at {k}");
             assert_eq!(rt; outcome.shown, 0, "at {k}");
             assert_eq!(rt; Some(outcome.out.bytes()), RED_PAGE.get(..k), "at {k}");
@@ -162,7 +162,7 @@ fn a_failing_write_leaves_the_bytes_before_it(rt: HostRuntime) -> Result<(), Fai
         step: 1,
         failing: Some(35),
     };
-    let outcome = run(&rt, &words, Some(RED_ROW.as_bytes()), &just_enough, &AMPLE)?;
+    let outcome = run(&rt, words, Some(RED_ROW.as_bytes()), &just_enough, &AMPLE)?;
     assert_eq!(rt; outcome.number, 0);
     assert_eq!(rt; outcome.shown, 1);
     assert_eq!(rt; outcome.out.bytes(), RED_PAGE);
@@ -176,137 +176,70 @@ fn the_header_is_one_piece_and_the_dots_another(rt: HostRuntime) -> Result<(), F
         step: 1000,
         failing: Some(1),
     };
-    let words = ["--size", "4x2", "p.ps"];
-    let outcome = run(&rt, &words, Some(RED_ROW.as_bytes()), &second_write, &AMPLE)?;
+    let words = "--size 4x2 p.ps";
+    let outcome = run(&rt, words, Some(RED_ROW.as_bytes()), &second_write, &AMPLE)?;
     assert_eq!(rt; outcome.number, 4);
     assert_eq!(rt; outcome.out.bytes(), b"P6\n4 2\n255\n".as_slice());
     Ok(())
 }
 
 #[test]
-fn refused_words_and_inputs_write_nothing(rt: HostRuntime) -> Result<(), Fail> {
-    let alloc = rt.alloc();
-    let long = vec![in alloc; b' '; 67_108_865]?;
-    let text = b"showpage".as_slice();
+fn words_outside_the_grammar_are_refused(rt: HostRuntime) -> Result<(), Fail> {
+    let cases = [
+        ("two programs", "p.ps q.ps"),
+        ("an empty program", ""),
+        ("no program", "--size 4x2"),
+        ("no value", "--size"),
+        ("a dash", "-"),
+        ("another option", "--report p.ps"),
+        ("an option after", "p.ps --size 4x2"),
+        ("an option twice", "--size 4x2 --size 4x2 p.ps"),
+        ("a value behind a sign", "--size=4x2 p.ps"),
+        ("one side", "--size 4 p.ps"),
+        ("no height", "--size 4x p.ps"),
+        ("three sides", "--size 4x2x1 p.ps"),
+        ("a sign", "--size +4x2 p.ps"),
+        ("no dots", "--size 0x2 p.ps"),
+        ("a side too long", "--size 14401x1 p.ps"),
+        ("a side of eleven digits", "--size 00000000004x2 p.ps"),
+        ("a dot too many", "--size 8193x8192 p.ps"),
+    ];
+    for (name, words) in cases {
+        let outcome = run(&rt, words, Some(b"showpage"), &AMPLE, &AMPLE)?;
+        assert_eq!(rt; outcome.number, 2, "{name}");
+        assert_eq!(rt; outcome.out.bytes(), b"".as_slice(), "{name}");
+        assert_eq!(rt; outcome.err.bytes(), USAGE.as_bytes(), "{name}");
+    }
+    Ok(())
+}
+
+#[test]
+fn inputs_are_refused_or_taken_whole(rt: HostRuntime) -> Result<(), Fail> {
+    let long = vec![in rt.alloc(); b' '; 67_108_865]?;
     let unread = "render: cannot read program\n";
     let too_long = "render: program is too long\n";
     let cases = [
+        ("no file", "p.ps", None, 3, unread),
         (
-            "two programs",
-            ["p.ps", "q.ps"].as_slice(),
-            Some(text),
-            2,
-            USAGE,
-        ),
-        ("no words", [].as_slice(), Some(text), 2, USAGE),
-        (
-            "no program",
-            ["--size", "4x2"].as_slice(),
-            Some(text),
-            2,
-            USAGE,
-        ),
-        ("no value", ["--size"].as_slice(), Some(text), 2, USAGE),
-        ("an empty program", [""].as_slice(), Some(text), 2, USAGE),
-        ("a dash", ["-"].as_slice(), Some(text), 2, USAGE),
-        (
-            "another option",
-            ["--report", "p.ps"].as_slice(),
-            Some(text),
-            2,
-            USAGE,
-        ),
-        (
-            "an option after",
-            ["p.ps", "--size", "4x2"].as_slice(),
-            Some(text),
-            2,
-            USAGE,
-        ),
-        (
-            "a size twice",
-            ["--size", "4x2", "--size", "4x2", "p.ps"].as_slice(),
-            Some(text),
-            2,
-            USAGE,
-        ),
-        (
-            "one side",
-            ["--size", "4", "p.ps"].as_slice(),
-            Some(text),
-            2,
-            USAGE,
-        ),
-        (
-            "no height",
-            ["--size", "4x", "p.ps"].as_slice(),
-            Some(text),
-            2,
-            USAGE,
-        ),
-        (
-            "three sides",
-            ["--size", "4x2x1", "p.ps"].as_slice(),
-            Some(text),
-            2,
-            USAGE,
-        ),
-        (
-            "a sign",
-            ["--size", "+4x2", "p.ps"].as_slice(),
-            Some(text),
-            2,
-            USAGE,
-        ),
-        (
-            "no dots",
-            ["--size", "0x2", "p.ps"].as_slice(),
-            Some(text),
-            2,
-            USAGE,
-        ),
-        (
-            "a side too long",
-            ["--size", "14401x1", "p.ps"].as_slice(),
-            Some(text),
-            2,
-            USAGE,
-        ),
-        (
-            "a side of eleven digits",
-            ["--size", "00000000004x2", "p.ps"].as_slice(),
-            Some(text),
-            2,
-            USAGE,
-        ),
-        (
-            "a dot too many",
-            ["--size", "8193x8192", "p.ps"].as_slice(),
-            Some(text),
-            2,
-            USAGE,
+            "a byte too long",
+            "p.ps",
+            Some(long.as_slice()),
+            7,
+            too_long,
         ),
         (
             "the largest page",
-            ["--size", "8192x8192", "p.ps"].as_slice(),
+            "--size 8192x8192 p.ps",
             Some(b"".as_slice()),
             0,
             "",
         ),
         (
             "the longest side",
-            ["--size", "0000014400x1", "p.ps"].as_slice(),
-            Some(b"".as_slice()),
+            "--size 0000014400x1 p.ps",
+            Some(b" \n".as_slice()),
             0,
             "",
-        ),
-        ("no such file", ["p.ps"].as_slice(), None, 3, unread),
-        (
-            "a byte more",
-            ["p.ps"].as_slice(),
-            Some(long.as_slice()),
-            7,
-            too_long,
         ),
     ];
     for (name, words, program, number, line) in cases {
@@ -321,7 +254,7 @@ fn refused_words_and_inputs_write_nothing(rt: HostRuntime) -> Result<(), Fail> {
 
 #[test]
 fn a_failing_line_changes_no_answer(rt: HostRuntime) -> Result<(), Fail> {
-    let words = ["--size", "4x2", "p.ps"];
+    let words = "--size 4x2 p.ps";
     let program = "1 0 0 setrgbcolor 0 0 2 1 rectfill showpage foo";
     let line = "render: undefined in foo\n".as_bytes();
     for room in 0..line.len() {
@@ -330,7 +263,7 @@ fn a_failing_line_changes_no_answer(rt: HostRuntime) -> Result<(), Fail> {
             step: 3,
             failing: None,
         };
-        let outcome = run(&rt, &words, Some(program.as_bytes()), &AMPLE, &limits)?;
+        let outcome = run(&rt, words, Some(program.as_bytes()), &AMPLE, &limits)?;
         assert_eq!(rt; outcome.number, 1, "at {room}");
         assert_eq!(rt; outcome.shown, 1, "at {room}");
         assert_eq!(rt; outcome.out.bytes(), RED_PAGE, "at {room}");
