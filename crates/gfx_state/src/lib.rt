@@ -8,6 +8,8 @@ mod colour;
 mod gfx;
 mod points;
 mod state;
+#[cfg(test)]
+mod worked;
 
 pub use colour::Space;
 pub use gfx::Gfx;

@@ -12,6 +12,8 @@ mod reading;
 mod setup;
 mod turn;
 mod unclosed;
+#[cfg(test)]
+mod worked;
 
 pub use machine::Machine;
 pub use setup::Setup;
