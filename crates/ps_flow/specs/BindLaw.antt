@@ -1,4 +1,5 @@
--- What bind changes: exactly the executable names, in the procedures that are reached, whose value is an operator.
+-- What bind changes (PostScript Language Reference, third edition, 3.12.1 The bind Operator): exactly the executable
+-- names, in the procedures that are reached, whose value is an operator.
 use Rattle.std.specs.Prelude.{◌≡◌, ℕ, ◌<◌, false, List, Some, length}
 use Rattle.ps_store.specs.declared.obj.Obj.{Obj}
 use Rattle.ps_store.specs.Parts.{Part}

@@ -1,4 +1,5 @@
--- The steps of bind: one place after the other of one procedure after the other.
+-- Own rule: bind goes from place to place of one procedure after the other. That the order makes no difference is
+-- proved: the outcome is that of specs/Binding.antt.
 use Rattle.std.specs.Prelude.{ℕ, zero, suc, ◌+◌, List, [], ◌∷◌, Option, Some, None, option_and_then}
 use Rattle.ps_store.specs.declared.obj.Obj.TheVariants.{Oper as Operator}
 use Rattle.ps_store.specs.declared.oper.Oper.{Oper}

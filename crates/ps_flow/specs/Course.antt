@@ -1,4 +1,5 @@
--- What an operator on the execution stack does.
+-- What an operator on the execution stack changes and answers (PostScript Language Reference, third edition, 3.4 Stacks).
+-- Own rule: at most 250 levels are open.
 use Rattle.std.specs.Prelude.{◌≡◌, Result, Ok, Err, List, ◌∷◌, length, Option, None, nat_lt, if◌then◌else◌}
 use Rattle.press_fault.specs.declared.names.PsName.TheVariants.{ExecStackOverflow}
 use Rattle.ps_store.specs.declared.obj.Obj.{Obj}

@@ -1,4 +1,4 @@
--- The procedures that were reached, each once.
+-- Own rule: bind visits each procedure once, in the order in which it reaches them.
 use Rattle.std.specs.Prelude.{◌≡◌, ℕ, ◌+◌, ◌<◌, Bool, true, false, List, [], ◌∷◌, ◌++◌, Option, Some, None, if◌then◌else◌}
 use Rattle.ps_store.specs.Parts.{Part}
 use Rattle.ps_store.specs.Store.{Kept}

@@ -1,6 +1,6 @@
 //! The control variable of a `for`.
 ghost use Rattle.std.specs.Prelude.{◌≡◌};
-ghost use Rattle.ps_flow.specs.Counting.{is_past, value_of, next_of_counter, counter_from, raw_of};
+ghost use Rattle.ps_flow.specs.Counting.{passes, is_past, value_of, next_of_counter, counter_from, raw_of};
 
 use press_nums::{Fix, Whole, Wide, fix_add, whole_from};
 use ps_store::Obj;
@@ -56,20 +56,9 @@ impl Counter {
     {
         match self {
             Counter::Integers { at, step } => {
-                let at = Fix::of_whole(*at).wide();
-                if step.wide().is_below(Wide::ZERO) {
-                    at.is_below(limit.wide())
-                } else {
-                    limit.wide().is_below(at)
-                }
+                passes(Fix::of_whole(*at).wide(), step.wide(), limit.wide())
             }
-            Counter::Reals { at, step } => {
-                if step.wide().is_below(Wide::ZERO) {
-                    at.wide().is_below(limit.wide())
-                } else {
-                    limit.wide().is_below(at.wide())
-                }
-            }
+            Counter::Reals { at, step } => passes(at.wide(), step.wide(), limit.wide()),
         }
     }
 
@@ -93,6 +82,17 @@ impl Counter {
                 None => None,
             },
         }
+    }
+}
+
+/// Whether a value is past a limit in a step's direction.
+fn passes(at: Wide, step: Wide, limit: Wide) -> bool
+    ensures { result ≡ passes at step limit }
+{
+    if step.is_below(Wide::ZERO) {
+        at.is_below(limit)
+    } else {
+        limit.is_below(at)
     }
 }
 

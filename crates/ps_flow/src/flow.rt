@@ -102,8 +102,8 @@ impl Flow {
         ensures no { result ≡ false → (below_loop self.old ≡ None) × (self.new ≡ self.old) }
     {
         match place_of_loop(self.items.as_slice()) {
-            Some(at) => {
-                self.items.truncate(at);
+            Some(left) => {
+                self.items.truncate(left);
                 true
             }
             None => false,

@@ -109,66 +109,80 @@ pub(crate) fn given(level: &mut Level) -> Advance
     match level {
         Level::Procedure(rest) => next_place(rest, Advance::Ends),
         Level::Stopped(rest) => next_place(rest, Advance::Passes),
-        Level::Loop { body, rest } => {
-            if rest.len == 0 {
-                *rest = *body;
-                return turn(FlowOp::Loop, Pushes::Nothing);
-            }
-            next_place(rest, Advance::Ends)
-        }
-        Level::Repeat { left, body, rest } => {
-            if rest.len == 0 {
-                if *left == 0 {
-                    return Advance::Ends;
-                }
-                *left -= 1;
-                *rest = *body;
-                return turn(FlowOp::Repeat, Pushes::Nothing);
-            }
-            next_place(rest, Advance::Ends)
-        }
+        Level::Loop { body, rest } => loop_given(*body, rest),
+        Level::Repeat { left, body, rest } => repeat_given(left, *body, rest),
         Level::For {
             next,
             limit,
             body,
             rest,
-        } => {
-            if rest.len == 0 {
-                return match next_value(next, *limit) {
-                    Some(value) => {
-                        *rest = *body;
-                        turn(FlowOp::For, Pushes::One(value))
-                    }
-                    None => Advance::Ends,
-                };
-            }
-            next_place(rest, Advance::Ends)
-        }
-        Level::Forall { left, body, rest } => {
-            if rest.len == 0 {
-                return match left.next() {
-                    Some(o) => {
-                        *rest = *body;
-                        turn(FlowOp::Forall, Pushes::One(o))
-                    }
-                    None => Advance::Ends,
-                };
-            }
-            next_place(rest, Advance::Ends)
-        }
-        Level::ForallEntries { left, body, rest } => {
-            if rest.len == 0 {
-                return match left.next() {
-                    Some((key, value)) => {
-                        *rest = *body;
-                        turn(FlowOp::Forall, Pushes::Two(key, value))
-                    }
-                    None => Advance::Ends,
-                };
-            }
-            next_place(rest, Advance::Ends)
-        }
+        } => for_given(next, *limit, *body, rest),
+        Level::Forall { left, body, rest } => forall_given(left, *body, rest),
+        Level::ForallEntries { left, body, rest } => entries_given(left, *body, rest),
     }
+}
+
+fn loop_given(body: Span, rest: &mut Span) -> Advance
+    ensures { given_of (Level.Loop body rest.old) ≡ record { gives = result; level = Level.Loop body rest.new } }
+{
+    if rest.len == 0 {
+        *rest = body;
+        return turn(FlowOp::Loop, Pushes::Nothing);
+    }
+    next_place(rest, Advance::Ends)
+}
+
+fn repeat_given(left: &mut u32, body: Span, rest: &mut Span) -> Advance
+    ensures { given_of (Level.Repeat left.old body rest.old) ≡ record { gives = result; level = Level.Repeat left.new body rest.new } }
+{
+    if rest.len == 0 {
+        if *left == 0 {
+            return Advance::Ends;
+        }
+        *left -= 1;
+        *rest = body;
+        return turn(FlowOp::Repeat, Pushes::Nothing);
+    }
+    next_place(rest, Advance::Ends)
+}
+
+fn for_given(next: &mut Option<Counter>, limit: Fix, body: Span, rest: &mut Span) -> Advance
+    ensures { given_of (Level.For next.old limit body rest.old) ≡ record { gives = result; level = Level.For next.new limit body rest.new } }
+{
+    if rest.len == 0 {
+        let Some(value) = next_value(next, limit) else {
+            return Advance::Ends;
+        };
+        *rest = body;
+        return turn(FlowOp::For, Pushes::One(value));
+    }
+    next_place(rest, Advance::Ends)
+}
+
+fn forall_given(left: &mut Objects, body: Span, rest: &mut Span) -> Advance
+    ensures { given_of (Level.Forall left.old body rest.old) ≡ record { gives = result; level = Level.Forall left.new body rest.new } }
+{
+    if rest.len == 0 {
+        let Some(o) = left.next() else {
+            return Advance::Ends;
+        };
+        *rest = body;
+        return turn(FlowOp::Forall, Pushes::One(o));
+    }
+    next_place(rest, Advance::Ends)
+}
+
+fn entries_given(left: &mut Pairs, body: Span, rest: &mut Span) -> Advance
+    ensures { given_of (Level.ForallEntries left.old body rest.old) ≡ record { gives = result; level = Level.ForallEntries left.new body rest.new } }
+{
+    if rest.len == 0 {
+        let Some((key, value)) = left.next() else {
+            return Advance::Ends;
+        };
+        *rest = body;
+        return turn(FlowOp::Forall, Pushes::Two(key, value));
+    }
+    next_place(rest, Advance::Ends)
 }
 
 /// The next place of a procedure, or what comes where nothing is left of it.
