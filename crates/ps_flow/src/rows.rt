@@ -237,9 +237,7 @@ fn forall_elements(
 fn contents(alloc: Global, store: &Store, over: Span) -> Mem<Vec<Obj>>
     ensures { IfOk result (λ items. items.items ≡ elements store.now over) }
 {
-    let items = (0..over.len)
-        .map(|at| store.get(over, at))
-        .collect(alloc)?;
+    let items = (0..over.len).map(|at| store.get(over, at)).collect(alloc)?;
     Ok(items)
 }
 
