@@ -1,0 +1,10 @@
+pub mod Weight
+pub mod Operands
+pub mod StackRows
+pub mod DataRows
+pub mod FlowRows
+pub mod GfxRows
+pub mod Steps
+pub mod Tokens
+pub mod Lowering
+pub mod Running

@@ -1,0 +1,18 @@
+-- The limits of the stacks (PostScript Language Reference, third edition, 3.4 Stacks, and Appendix B
+-- Implementation Limits). Own rules: the numbers, and that systemdict and userdict stay at the bottom of
+-- the dictionary stack.
+use Rattle.std.specs.Prelude.{◌≤◌, length}
+use Rattle.ps_machine.specs.State.{State}
+use Rattle.ps_machine.specs.Errors.{Step, Goes, Shows, Ends}
+
+pub record IsLimited (s : State) : Type 0 where
+  pub operands : length s.operands ≤ 500
+  pub levels : length s.levels ≤ 250
+  pub dicts : length s.dicts ≤ 20
+  pub standard : 2 ≤ length s.dicts
+
+-- what a step leaves, where the program goes on
+abbrev pub KeepsLimits : Step → Type 0
+KeepsLimits (Goes s) = IsLimited s
+KeepsLimits (Shows page s) = IsLimited s
+KeepsLimits (Ends end) = Unit {0}
