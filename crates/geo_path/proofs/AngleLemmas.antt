@@ -3,10 +3,12 @@ use Rattle.std.proofs.Common.{◌≡◌, ℕ, zero, suc, ◌+◌, ◌-◌, ◌<�
 use Rattle.std.specs.Prelude.{ℤ, pos, negsuc, neg_ℤ, ◌+ℤ◌, ◌-ℤ◌, ◌*ℤ◌, ◌≤ℤ◌, ◌<ℤ◌, unsigned_abs, slice_get}
 use Rattle.std.specs.List.{range_with_len}
 use Rattle.std.proofs.lemmas.Int.{ints, by_lt_z}
-use Rattle.std.proofs.lemmas.List.FromFn.{length-map-range_with_len}
+use Rattle.std.proofs.lemmas.List.FromFn.{length-map-range_with_len, length-range_with_len, get_or-range_with_len}
+use Rattle.std.proofs.lemmas.List.Elements.{All-map}
+use Rattle.std.specs.List.{All}
 use Rattle.std.proofs.lemmas.List.{length-append}
 use Rattle.press_nums.specs.Fix.{IsFix}
-use Rattle.geo_path.specs.Arc.{first_above, last_below, span, between_of, multiple_at, multiples_of, angles_of, HasAngles}
+use Rattle.geo_path.specs.Arc.{first_above, last_below, span, between_of, multiple_at, multiples_of, angles_of, HasAngles, IsBetween}
 
 by_bool : {P : Type 0} (b : Bool) → (b ≡ true → P) → (b ≡ false → P) → P
 by_bool true f g = f refl
@@ -91,3 +93,22 @@ last_is between clockwise from to angles i h e g l =
 pub fits_is : (between : ℕ) (clockwise : Bool) (from to : ℤ) (i : ℕ) (angle : ℤ) → HasAngles between clockwise from to
     → (i ≡ 0 → ⊥) → i ≤ between → angle ≡ multiple_at clockwise from (i - 1) → unsigned_abs angle < 2 ^ 47
 fits_is between clockwise from to i angle h some g a = rw a (multiple_fits clockwise from to (i - 1) h.from_fits h.to_fits (omega (arith, some, g, h.between_is)))
+
+rising_between : (low high : ℤ) (i : ℕ) → i < span (first_above low) (last_below high) → IsBetween false low high ((first_above low +ℤ pos i) *ℤ pos 92160)
+rising_between low high i h =
+    let a = above low in let b = below high in let c = within_span (first_above low) (last_below high) i h in
+    record { multiple = (first_above low +ℤ pos i, refl); behind = omega (arith, ints, a); before = omega (arith, ints, b, c) }
+
+falling_between : (high low : ℤ) (i : ℕ) → i < span (first_above low) (last_below high) → IsBetween true high low ((last_below high -ℤ pos i) *ℤ pos 92160)
+falling_between high low i h =
+    let a = above low in let b = below high in let c = within_span (first_above low) (last_below high) i h in
+    record { multiple = (last_below high -ℤ pos i, refl); behind = omega (arith, ints, b); before = omega (arith, ints, a, c) }
+
+multiple_between : (clockwise : Bool) (from to : ℤ) (i : ℕ) → i < between_of clockwise from to → IsBetween clockwise from to (multiple_at clockwise from i)
+multiple_between true from to i h = falling_between from to i h
+multiple_between false from to i h = rising_between from to i h
+
+pub all_between : (clockwise : Bool) (from to : ℤ) → All (IsBetween clockwise from to) (multiples_of clockwise from to)
+all_between clockwise from to = All-map (IsBetween clockwise from to) (multiple_at clockwise from) (range_with_len 0 (between_of clockwise from to))
+    (λ k d l. let low : k < between_of clockwise from to = omega (arith, l, length-range_with_len 0 (between_of clockwise from to)) in
+    multiple_between clockwise from to _ (omega (arith, low, get_or-range_with_len 0 (between_of clockwise from to) k d low)))

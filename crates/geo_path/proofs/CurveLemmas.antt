@@ -34,7 +34,7 @@ quotient_size n r size h e f = by_bool (leb r 2147483647)
     (λ b. omega (arith, leb-true r 2147483647 b))
     (λ b. absurd (let more : n * 2147483648 ≤ n * r = mul-le-mul {n₁ = n} {m₁ = 2147483648} {n₂ = n} {m₂ = r} (omega arith) (omega (arith, leb-false r 2147483647 b)) in omega (arith, more, h, e, f)))
 
-some_cube : (n : ℕ) → 0 < n → 0 < n * n * n
+pub some_cube : (n : ℕ) → 0 < n → 0 < n * n * n
 some_cube n h = mul-le-mul {n₁ = 1} {m₁ = 1} {n₂ = n * n} {m₂ = n} (mul-le-mul {n₁ = 1} {m₁ = 1} {n₂ = n} {m₂ = n} (omega (arith, h)) (omega (arith, h))) (omega (arith, h))
 
 rounded_size : (n : ℕ) (sum : ℤ) → 0 < n → unsigned_abs sum ≤ 2147483647 * n → unsigned_abs (div_round sum (pos n)) < 2 ^ 31

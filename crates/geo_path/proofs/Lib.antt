@@ -3,3 +3,4 @@ pub mod CountLemmas
 pub mod FlatLemmas
 pub mod AngleLemmas
 pub mod PointLemmas
+pub mod EndLemmas

@@ -1,7 +1,7 @@
 -- Arcs of circles (PostScript Language Reference, third edition, 8.2 `arc`, `arcn`). Own rule: an arc
 -- is a chain of lines between points of the circle at its start, at each multiple of 360/256 degrees
 -- strictly between, and at its end. Angles are in degrees, by raw values.
-use Rattle.std.specs.Prelude.{◌≡◌, ℕ, zero, suc, ◌+◌, ◌-◌, ◌≤◌, ◌^◌, ℤ, pos, neg_ℤ, ◌+ℤ◌, ◌-ℤ◌, ◌*ℤ◌, int_le, unsigned_abs, Bool, List, [], ◌∷◌, ◌++◌, map, Option, Some, None, Result, Ok, Err, if◌then◌else◌}
+use Rattle.std.specs.Prelude.{◌≡◌, ℕ, zero, suc, ◌+◌, ◌-◌, ◌≤◌, ◌^◌, ℤ, pos, neg_ℤ, ◌+ℤ◌, ◌-ℤ◌, ◌*ℤ◌, ◌<ℤ◌, ◌≤ℤ◌, int_le, unsigned_abs, Bool, List, [], ◌∷◌, ◌++◌, map, Option, Some, None, Result, Ok, Err, if◌then◌else◌}
 use Rattle.std.specs.Int.{int_div_euclid, int_rem_euclid}
 use Rattle.std.specs.List.{range_with_len}
 use Rattle.std.specs.Option.{option_and_then}
@@ -48,6 +48,16 @@ multiple_at clockwise from i =
 
 abbrev pub multiples_of : Bool → ℤ → ℤ → List ℤ
 multiples_of clockwise from to = map (multiple_at clockwise from) (range_with_len 0 (between_of clockwise from to))
+
+-- an angle that is a multiple of the step and lies strictly between the two
+pub record IsBetween (clockwise : Bool) (from to angle : ℤ) : Type 0 where
+  pub multiple : (k : ℤ) × (angle ≡ k *ℤ pos 92160)
+  pub behind : (if clockwise then angle else from) <ℤ (if clockwise then from else angle)
+  pub before : (if clockwise then to else angle) <ℤ (if clockwise then angle else to)
+
+-- an end that an arc reaches from its start
+abbrev pub IsOnTheRightSide : Bool → ℤ → ℤ → Type 0
+IsOnTheRightSide clockwise from to = (if clockwise then to else from) ≤ℤ (if clockwise then from else to)
 
 -- the angles of an arc's points, in order
 abbrev pub angles_of : Bool → ℤ → ℤ → List ℤ

@@ -34,3 +34,7 @@ flat s = record { points = s.start ∷ added_from s.start s.segments; closed = s
 -- a path, flattened
 abbrev pub lines_of : PathValue → List LineValue
 lines_of path = map flat (subpaths_of path)
+
+-- the rings of a polygon of these lines: each is closed, as `fill` takes it
+abbrev pub rings_of : List LineValue → List (List Spot)
+rings_of lines = map (λ line. line.points) lines

@@ -2,7 +2,7 @@
 ghost use Rattle.std.specs.Prelude.{◌≡◌, [], ◌∷◌, ◌++◌, map, OnOk, OnErr, IfOk};
 ghost use Rattle.std.specs.List.{All};
 ghost use Rattle.geo_matrix.specs.Affine.{IsNear};
-ghost use Rattle.geo_path.specs.Flat.{LineValue, IsNearLine, added_by, flat, lines_of};
+ghost use Rattle.geo_path.specs.Flat.{LineValue, IsNearLine, added_by, flat, lines_of, rings_of};
 ghost use Rattle.geo_path.specs.Path.{IsNearSegment};
 
 use crate::curve::{Curve, push_curve};
@@ -64,6 +64,18 @@ impl Lines {
     {
         self.lines.push(line)?;
         Ok(())
+    }
+
+    /// The points of each chain as a ring, for a polygon that closes all of them.
+    pub fn into_rings(self, alloc: Global) -> Mem<Rings>
+        ensures { IfOk result (λ rings. rings ≡ rings_of self) }
+    {
+        let mut rings = Rings::new(alloc);
+        for line in self.lines {
+            let Line { points, closed: _ } = line;
+            rings.push(points)?;
+        }
+        Ok(rings)
     }
 
     pub fn items(&self) -> &[Line]

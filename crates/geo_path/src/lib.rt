@@ -8,11 +8,18 @@
 mod arc;
 mod curve;
 mod flat;
+mod laws;
 mod parts;
 mod path;
 mod segment;
 mod subpath;
+#[cfg(test)]
+mod tests;
 
 pub use flat::{Line, Lines};
+pub use laws::{
+    a_curve_ends_at_its_last_control_point, an_end_is_on_the_right_side, flattening_keeps_the_ends,
+    flattening_keeps_what_is_closed, inner_angles_are_multiples_between,
+};
 pub use path::{Path, PathFault};
 pub use segment::Segment;

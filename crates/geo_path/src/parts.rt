@@ -37,6 +37,21 @@ impl Parts {
         }
     }
 
+    /// Subpaths of their own with the same points.
+    pub fn duplicate(&self, alloc: Global) -> Mem<Parts>
+        ensures { IfOk result (λ p. p ≡ self.now) }
+    {
+        let mut before = Vec::new(alloc);
+        for subpath in &self.before {
+            before.push(subpath.duplicate(alloc)?)?;
+        }
+        let last = match &self.last {
+            Some(last) => Some(last.duplicate(alloc)?),
+            None => None,
+        };
+        Ok(Parts { before, last })
+    }
+
     pub fn before(&self) -> &[Subpath]
         ensures { result.now ≡ self.now.before }
     {

@@ -1,5 +1,5 @@
 //! Paths and what adds to them.
-ghost use Rattle.std.specs.Prelude.{◌≡◌, ◌≤◌, ◌<◌, ◌≢◌, true, length, [], Some, None, Ok, Err, OnOk, OnErr, IfOk, IfErr};
+ghost use Rattle.std.specs.Prelude.{◌≡◌, ◌≤◌, ◌<◌, ◌≢◌, ◌==◌, true, length, [], Some, None, Ok, Err, OnOk, OnErr, IfOk, IfErr};
 ghost use Rattle.std.specs.List.{All};
 ghost use Rattle.press_fault.specs.Plane.{Spot};
 ghost use Rattle.geo_matrix.specs.Affine.{IsNear, is_near};
@@ -73,6 +73,24 @@ impl Path {
             count: 0,
             alloc,
         }
+    }
+
+    /// A path of its own with the same subpaths, for a holder that shares this one.
+    pub fn duplicate(&self) -> Mem<Path>
+        ensures { IfOk result (λ path. path ≡ self.now) }
+    {
+        Ok(Path {
+            parts: self.parts.duplicate(self.alloc)?,
+            count: self.count,
+            alloc: self.alloc,
+        })
+    }
+
+    /// Whether there is no point.
+    pub fn is_empty(&self) -> bool
+        ensures { result ≡ (count_of self.now == 0) }
+    {
+        self.count == 0
     }
 
     /// The points that count against the limit.

@@ -1,5 +1,5 @@
 //! One subpath.
-ghost use Rattle.std.specs.Prelude.{◌≡◌, false, OnOk, OnErr};
+ghost use Rattle.std.specs.Prelude.{◌≡◌, false, OnOk, OnErr, IfOk};
 ghost use Rattle.std.specs.List.{All};
 ghost use Rattle.geo_matrix.specs.Affine.{IsNear};
 ghost use Rattle.geo_path.specs.Path.{SubpathValue, IsNearSegment, IsNearSubpath, subpath_current, opened, continued, closed_subpath};
@@ -40,6 +40,18 @@ impl Subpath {
             end: start,
             closed: false,
         }
+    }
+
+    /// A subpath of its own with the same points.
+    pub fn duplicate(&self, alloc: Global) -> Mem<Subpath>
+        ensures { IfOk result (λ s. s ≡ self.now) }
+    {
+        Ok(Subpath {
+            start: self.start,
+            segments: Vec::from_slice(alloc, &self.segments)?,
+            end: self.end,
+            closed: self.closed,
+        })
     }
 
     pub fn is_closed(&self) -> bool
