@@ -78,21 +78,22 @@ impl Body {
     pub(crate) fn step(&mut self, end: &mut End) -> Mem<Turn>
         ensures { IfOk result (λ turn. step self.old ≡ step_of turn self.new end.new) }
     {
-        match self.at_once {
+        match &self.at_once {
             Some(o) => {
+                let o = *o;
                 self.at_once = None;
                 self.execute(end, &o)
             }
             None => {
                 let next = self.flow.next_object();
-                self.go_on(end, next)
+                self.go_on(end, &next)
             }
         }
     }
 
     #[tactic(auto, unfolding(crate::specs::Reading::go_on))]
-    fn go_on(&mut self, end: &mut End, next: NextObj) -> Mem<Turn>
-        ensures { IfOk result (λ turn. go_on next self.old ≡ step_of turn self.new end.new) }
+    fn go_on(&mut self, end: &mut End, next: &NextObj) -> Mem<Turn>
+        ensures { IfOk result (λ turn. go_on next.now self.old ≡ step_of turn self.new end.new) }
     {
         match next {
             NextObj::Run(place) => {
@@ -100,14 +101,14 @@ impl Body {
                     return Ok(timeout(end));
                 }
                 self.count += 1;
-                self.execute_at(end, place)
+                self.execute_at(end, *place)
             }
             NextObj::Turn { op, pushes } => {
                 if self.count >= OBJECTS {
                     return Ok(timeout(end));
                 }
                 self.count += 1;
-                Ok(self.begin_turn(end, op, pushes))
+                Ok(self.begin_turn(end, *op, pushes))
             }
             NextObj::Passed => Ok(self.push(end, b"stopped", Obj::Bool(false))),
             NextObj::Empty => self.read(end),
@@ -289,8 +290,8 @@ impl Body {
     }
 
     /// What a turn of a loop pushes.
-    fn begin_turn(&mut self, end: &mut End, op: FlowOp, pushes: Pushes) -> Turn
-        ensures { turned op pushes self.old ≡ step_of result self.new end.new }
+    fn begin_turn(&mut self, end: &mut End, op: FlowOp, pushes: &Pushes) -> Turn
+        ensures { turned op pushes.now self.old ≡ step_of result self.new end.new }
     {
         match pushes.onto(&mut self.stack) {
             Ok(()) => Turn::Went,
