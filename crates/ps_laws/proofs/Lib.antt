@@ -8,3 +8,12 @@ pub mod Steps
 pub mod Tokens
 pub mod Lowering
 pub mod Running
+pub mod Each
+pub mod Values
+pub mod StoredStack
+pub mod StoredData
+pub mod StoredFlow
+pub mod StoredGfx
+pub mod StoredSteps
+pub mod StoredTokens
+pub mod StoredRunning

@@ -1,3 +1,4 @@
 pub mod Limits
 pub mod Reached
 pub mod Ending
+pub mod Stored

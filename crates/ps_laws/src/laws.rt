@@ -9,6 +9,7 @@ ghost use Rattle.ps_machine.specs.Meaning.{run, meaning_of};
 ghost use Rattle.ps_laws.specs.Limits.{IsLimited, KeepsLimits};
 ghost use Rattle.ps_laws.specs.Reached.{IsReached};
 ghost use Rattle.ps_laws.specs.Ending.{EndsWithin};
+ghost use Rattle.ps_laws.specs.Stored.{IsStored, KeepsStored};
 
 /// A program starts within the limits of the operands, the levels and the dictionary stack.
 pub fn limits_at_start()
@@ -39,4 +40,22 @@ pub fn programs_end()
 pub fn more_steps_change_nothing()
     ensures { (text : List ℕ) (size : PageSize) (n : ℕ) → length text ≤ 67108864 →
         1000000000000 ≤ n → run n (opening opening_store text size) ≡ meaning_of text size }
+{}
+
+/// At the start of a program each span and dictionary that its state holds is one of its store.
+pub fn stored_at_start()
+    ensures { (text : List ℕ) (size : PageSize) → IsStored (opening opening_store text size) }
+{}
+
+/// Each step keeps this.
+pub fn stored_kept()
+    ensures { (s : State) → IsStored s → KeepsStored (step s) }
+{}
+
+/// So no program ever comes to a state that holds a number of a composite which its store lacks: on the
+/// operands, in the composites themselves, on the dictionary stack, in the levels, in the object that is to be
+/// executed at once, or in the procedures of the text that aren't closed yet.
+pub fn stored_when_reached()
+    ensures { (text : List ℕ) (size : PageSize) (s : State) →
+        IsReached (opening opening_store text size) s → IsStored s }
 {}
