@@ -28,15 +28,15 @@ pub fn limits_when_reached()
         IsReached (opening store text size) s → IsLimited s }
 {}
 
-/// Every program ends by a step of its own within 1,000,000,000,000 steps: at the end of its text, by `quit`,
-/// by an error, or where it would execute more than 100,000,000 objects. So the number of steps in the
-/// definition of a meaning is never what ends a program.
+/// Every program of at most 67,108,864 bytes ends by a step of its own within 1,000,000,000,000 steps: at the
+/// end of its text, by `quit`, by an error, or where it would execute more than 100,000,000 objects. So the
+/// number of steps in the definition of a meaning is never what ends a program.
 pub fn programs_end()
     ensures { (store : Kept) (text : List ℕ) (size : PageSize) → length text ≤ 67108864 →
         EndsWithin 1000000000000 (opening store text size) }
 {}
 
-/// With more steps a program means the same.
+/// With more steps such a program means the same.
 pub fn more_steps_change_nothing()
     ensures { (text : List ℕ) (size : PageSize) (n : ℕ) → length text ≤ 67108864 →
         1000000000000 ≤ n → run n (opening opening_store text size) ≡ meaning_of text size }
