@@ -6,6 +6,7 @@
 #![tactic(auto)]
 
 mod arc;
+mod checks;
 mod curve;
 mod flat;
 mod laws;

@@ -199,7 +199,7 @@ impl Path {
     }
 
     /// How many lines there is room for: after `close` the start counts once more.
-    fn room(&self) -> u32
+    pub(crate) fn room(&self) -> u32
         ensures { result ≡ room_of self.now }
     {
         let more = match self.parts.last() {

@@ -1,9 +1,14 @@
 -- The graphics state, its saved copies, and the page that is painted
 -- (PostScript Language Reference, third edition, 4.2 Graphics State and 8.2 Graphics State Operators).
-use Rattle.std.specs.Prelude.{ℕ, ℤ, pos, neg_ℤ, ◌+◌, ◌*◌, ◌&&◌, List, [], ◌∷◌, ◌++◌, length, reverse, take, slice_get, Option, Some, None, nat_lt, nat_le, Bool, if◌then◌else◌}
+use Rattle.std.specs.Prelude.{ℕ, ℤ, pos, neg_ℤ, ◌+◌, ◌*◌, ◌&&◌, List, [], ◌∷◌, ◌++◌, length, reverse, take, slice_get, Option, Some, None, Result, Ok, Err, nat_lt, nat_le, Bool, if◌then◌else◌}
+use Rattle.std.specs.Option.{option_map}
 use Rattle.press_nums.specs.Rounding.{div_round}
 use Rattle.press_fault.specs.Plane.{Spot, Channels}
-use Rattle.geo_matrix.specs.Affine.{Affine}
+use Rattle.geo_matrix.specs.Affine.{Affine, identity}
+use Rattle.geo_matrix.specs.Product.{concat_of}
+use Rattle.geo_path.specs.declared.path.PathFault.{PathFault}
+use Rattle.geo_path.specs.Path.{PathValue, count_of}
+use Rattle.geo_path.specs.Flat.{lines_of, rings_of}
 use Rattle.page_model.specs.Marking.{Marking, Flatly}
 use Rattle.page_model.specs.Page.{Sheet}
 use Rattle.page_model.specs.declared.shape.Rule.{Rule}
@@ -21,11 +26,12 @@ pub record PageSize : Type 0 where
   pub height : ℕ
   pub res : ℕ
 
--- one graphics state: the current transformation matrix, the colour space, the colour's codes and the clip
+-- one graphics state: the current transformation matrix, the colour space, the colour's codes, the path and the clip
 pub record GraphicsState : Type 0 where
   pub matrix : Affine
   pub space : Space
   pub code : Channels
+  pub path : PathValue
   pub clip : List Region
 
 -- the page's size, the current state, its saved copies (the last one saved first), and the marks of the page so far
@@ -50,44 +56,78 @@ default_matrix size = record {
   ty = pos (size.height * 65536);
 }
 
+-- the path without subpaths
+abbrev pub no_path : PathValue
+no_path = record { before = []; last = None }
+
 -- what initgraphics sets
 abbrev pub initial_state : PageSize → GraphicsState
-initial_state size = record { matrix = default_matrix size; space = Gray; code = first_colour Gray; clip = [] }
+initial_state size = record { matrix = default_matrix size; space = Gray; code = first_colour Gray; path = no_path; clip = [] }
 
 -- a blank page, as a program finds it
 abbrev pub opening : PageSize → Graphics
 opening size = record { size = size; state = initial_state size; saved = []; marks = [] }
 
--- with another current state
+-- From here on each call is written as `record g { .. }`: what it doesn't name stays as it is.
 abbrev pub with_state : Graphics → GraphicsState → Graphics
-with_state g state = record { size = g.size; state = state; saved = g.saved; marks = g.marks }
+with_state g state = record g { state = state }
 
 abbrev pub with_initial : Graphics → Graphics
 with_initial g = with_state g (initial_state g.size)
 
 -- the page without its marks
 abbrev pub erased : Graphics → Graphics
-erased g = record { size = g.size; state = g.state; saved = g.saved; marks = [] }
+erased g = record g { marks = [] }
+
+-- a blank page of another size, with what initgraphics sets
+abbrev pub resized : Graphics → ℕ → ℕ → Graphics
+resized g width height = with_initial (erased (record g { size = record { width = width; height = height; res = g.size.res } }))
+
+-- with another current transformation matrix
+abbrev pub with_matrix : Graphics → Affine → Graphics
+with_matrix g matrix = with_state g (record g.state { matrix = matrix })
+
+-- with the default matrix
+abbrev pub with_default_matrix : Graphics → Graphics
+with_default_matrix g = with_matrix g (default_matrix g.size)
+
+-- with a matrix put before the current one, where each element of the product is a real number
+abbrev pub concatenated : Graphics → Affine → Option Graphics
+concatenated g matrix = option_map (with_matrix g) (concat_of matrix g.state.matrix)
+
+-- the matrix that moves the origin to (x, y)
+abbrev pub translation : ℤ → ℤ → Affine
+translation x y = record identity { tx = x; ty = y }
+
+-- the matrix that makes the units of x and y so many times as long
+abbrev pub scaling : ℤ → ℤ → Affine
+scaling x y = record identity { a = x; d = y }
+
+-- with another path
+abbrev pub with_path : Graphics → PathValue → Graphics
+with_path g path = with_state g (record g.state { path = path })
+
+-- with the path that a call on it answers, or its refusal
+abbrev pub with_answer : Graphics → Result PathValue PathFault → Result Graphics PathFault
+with_answer g (Ok path) = Ok (with_path g path)
+with_answer g (Err fault) = Err fault
 
 -- with another colour space, and its first colour
 abbrev pub with_space : Graphics → Space → Graphics
-with_space g space = with_state g (record { matrix = g.state.matrix; space = space; code = first_colour space; clip = g.state.clip })
+with_space g space = with_state g (record g.state { space = space; code = first_colour space })
 
 -- with another colour of the same space
 abbrev pub with_colour : Graphics → List ℤ → Graphics
-with_colour g values = with_state g (record { matrix = g.state.matrix; space = g.state.space; code = codes_of values; clip = g.state.clip })
+with_colour g values = with_state g (record g.state { code = codes_of values })
 
 -- with a copy of the current state saved, at most 32
 abbrev pub saved_state : Graphics → Option Graphics
-saved_state g =
-    if nat_lt (length g.saved) 32
-    then Some (record { size = g.size; state = g.state; saved = g.state ∷ g.saved; marks = g.marks })
-    else None
+saved_state g = if nat_lt (length g.saved) 32 then Some (record g { saved = g.state ∷ g.saved }) else None
 
 -- back to the state saved last, which isn't saved any more; nothing where none is saved
 abbrev pub back_to : Graphics → List GraphicsState → Graphics
 back_to g [] = g
-back_to g (state ∷ saved) = record { size = g.size; state = state; saved = saved; marks = g.marks }
+back_to g (state ∷ saved) = record g { state = state; saved = saved }
 
 abbrev pub restored : Graphics → Graphics
 restored g = back_to g g.saved
@@ -103,7 +143,7 @@ only_first saved = take 1 (reverse saved)
 -- back to the state saved first, which stays as the only one saved; nothing where none is saved
 abbrev pub back_to_first : Graphics → Option GraphicsState → Graphics
 back_to_first g None = g
-back_to_first g (Some state) = record { size = g.size; state = state; saved = only_first g.saved; marks = g.marks }
+back_to_first g (Some state) = record g { state = state; saved = only_first g.saved }
 
 abbrev pub all_restored : Graphics → Graphics
 all_restored g = back_to_first g (first_saved g.saved)
@@ -120,8 +160,15 @@ has_room g points = nat_lt (length g.marks) 1000000 && nat_le (mark_points g.mar
 abbrev pub painted : Graphics → Rule → List (List Spot) → Option Graphics
 painted g rule rings =
     if has_room g (ring_points rings)
-    then Some (record { size = g.size; state = g.state; saved = g.saved; marks = g.marks ++ mark_of g.state rule rings ∷ [] })
+    then Some (record g { marks = g.marks ++ mark_of g.state rule rings ∷ [] })
     else None
+
+-- the page where the path is filled, if the path has a point, and the path is empty then
+abbrev pub filled : Graphics → Rule → Option Graphics
+filled g rule =
+    if nat_lt 0 (count_of g.state.path)
+    then option_map (λ page. with_path page no_path) (painted g rule (rings_of (lines_of g.state.path)))
+    else Some (with_path g no_path)
 
 -- the page as it is given
 abbrev pub page_of : Graphics → Sheet

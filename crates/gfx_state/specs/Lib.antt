@@ -1,5 +1,6 @@
 pub mod Colour
 pub mod Clipped
+pub mod Held
 pub mod Points
 pub mod Keeping
 pub mod Graphics

@@ -1,11 +1,12 @@
 //! The graphics state with its saved copies, and the page that is painted.
-ghost use Rattle.std.specs.Prelude.{◌≡◌, ◌≤◌, ◌↔◌, ℕ, length, Some, None, OnOk, OnErr, IfOk, IsErrOf, []};
+ghost use Rattle.std.specs.Prelude.{◌≡◌, ◌≤◌, ◌↔◌, ℕ, length, Some, None, Err, OnOk, OnErr, IfOk, IsErrOf, []};
 ghost use Rattle.std.specs.Arc.{arc_value};
-ghost use Rattle.gfx_state.specs.Graphics.{opening, default_matrix, saved_state, restored, with_initial, all_restored, erased, with_space, with_colour, painted, initial_state, mark_of, page_of};
+ghost use Rattle.gfx_state.specs.Graphics.{opening, default_matrix, resized, saved_state, restored, with_initial, all_restored, erased, with_space, with_colour, painted, filled, initial_state, mark_of, page_of};
 ghost use Rattle.gfx_state.specs.Keeping.{IsPageSize};
 ghost use Rattle.gfx_state.specs.Colour.{channels_of, gray_of};
 
 use crate::colour::{Space, codes, gray};
+use crate::held::HeldPath;
 use crate::points::points_up_to;
 use crate::state::{SAVED, Saved, State};
 use geo_matrix::Matrix;
@@ -20,12 +21,12 @@ use std::sync::Arc;
 /// The graphics state, its saved copies, and the marks of the page so far.
 #[derive(Drop)]
 pub struct Gfx {
-    alloc: Global,
+    pub(crate) alloc: Global,
     width: u32,
-    height: u32,
-    res: u32,
+    pub(crate) height: u32,
+    pub(crate) res: u32,
     no_clip: Arc<Clip>,
-    state: State,
+    pub(crate) state: State,
     saved: Saved,
     marks: Marks,
     points: u64,
@@ -61,7 +62,7 @@ impl Gfx {
             height,
             res,
             no_clip,
-            state: initial(height, res),
+            state: initial(alloc, height, res),
             saved: Saved::new(alloc),
             marks: Marks::new(alloc),
             points: 0,
@@ -72,7 +73,7 @@ impl Gfx {
     pub fn initial(&mut self)
         ensures { self.new ≡ with_initial self.old }
     {
-        self.state = initial(self.height, self.res);
+        self.state = initial(self.alloc, self.height, self.res);
     }
 
     /// Drops the marks of the page.
@@ -81,6 +82,17 @@ impl Gfx {
     {
         self.marks = Marks::new(self.alloc);
         self.points = 0;
+    }
+
+    /// Sets the size of the page in dots, drops its marks, and sets what `initgraphics` sets.
+    pub fn set_page(&mut self, width: u32, height: u32)
+        requires { IsPageSize width height self.old.size.res }
+        ensures { self.new ≡ resized self.old width height }
+    {
+        self.erase();
+        self.width = width;
+        self.height = height;
+        self.initial();
     }
 
     /// Sets the colour space, and its first colour.
@@ -113,13 +125,6 @@ impl Gfx {
         gray(self.state.space, self.state.code)
     }
 
-    /// The current transformation matrix.
-    pub fn matrix(&self) -> Matrix
-        ensures { result ≡ self.now.state.matrix }
-    {
-        self.state.matrix
-    }
-
     /// Saves a copy of the current state, refused exactly where 32 are saved.
     pub fn save(&mut self) -> Result<(), Grow>
         ensures ok { OnOk result (saved_state self.old ≡ Some self.new) }
@@ -129,6 +134,7 @@ impl Gfx {
         if self.saved.len() >= SAVED {
             return Err(Grow::LimitCheck);
         }
+        self.state.path.share()?;
         let copy = self.state.copy()?;
         self.saved.push(copy)?;
         Ok(())
@@ -173,6 +179,22 @@ impl Gfx {
         Ok(())
     }
 
+    /// Fills the path and empties it, refused exactly where the page has no room for the mark.
+    ///
+    /// One mark of one polygon of all subpaths, the curves cut into pieces; none without a point.
+    pub fn mark_fill(&mut self, rule: Rule) -> Result<(), Grow>
+        ensures ok { OnOk result (filled self.old rule ≡ Some self.new) }
+        ensures limit { result ≡ Err Grow.LimitCheck → filled self.old rule ≡ None }
+        ensures err { OnErr result (self.new ≡ self.old) }
+    {
+        if self.path().count() > 0 {
+            let rings = self.path().flatten()?.into_rings(self.alloc)?;
+            self.mark_rings(rule, rings)?;
+        }
+        self.new_path();
+        Ok(())
+    }
+
     /// The page that was painted. The marks go with it.
     pub fn take_page(&mut self) -> Page
         ensures page { result ≡ page_of self.old }
@@ -190,22 +212,23 @@ impl Gfx {
 }
 
 /// What `initgraphics` sets.
-fn initial(height: u32, res: u32) -> State
+fn initial(alloc: Global, height: u32, res: u32) -> State
     requires height { height ≤ 16384 }
     requires res { res ≤ 2400 }
     ensures { (width : ℕ) → result ≡ initial_state (record { width = width; height = height; res = res }) }
 {
     State {
-        matrix: default(height, res),
+        matrix: default_matrix(height, res),
         space: Space::Gray,
         code: Space::Gray.first_colour(),
+        path: HeldPath::new(alloc),
         clip: None,
     }
 }
 
 /// The default matrix of a page.
 #[tactic(auto, unfolding(crate::specs::Graphics::default_matrix))]
-fn default(height: u32, res: u32) -> Matrix
+pub(crate) fn default_matrix(height: u32, res: u32) -> Matrix
     requires height { height ≤ 16384 }
     requires res { res ≤ 2400 }
     ensures { (width : ℕ) → result ≡ default_matrix (record { width = width; height = height; res = res }) }

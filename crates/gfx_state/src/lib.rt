@@ -1,11 +1,15 @@
-//! The graphics state: matrix, colour, clip, saved copies, and the marks of the page.
+//! The graphics state: matrix, colour, path, clip, saved copies, and the marks of the page.
 //!
 //! Proved against `specs/Graphics.antt` and `specs/Colour.antt` (PostScript Language Reference, third
-//! edition, 4.2 Graphics State). Start with `gfx.rt`. Coordinates are sub-dots, 1/256 of a dot.
+//! edition, 4.2 Graphics State). Start with `gfx.rt`, then `matrices.rt` and `paths.rt`.
+//! Coordinates are sub-dots, 1/256 of a dot.
 #![tactic(auto)]
 
 mod colour;
 mod gfx;
+mod held;
+mod matrices;
+mod paths;
 mod points;
 mod state;
 #[cfg(test)]

@@ -5,6 +5,7 @@ ghost use Rattle.gfx_state.specs.Clipped.{regions_of};
 ghost use Rattle.gfx_state.specs.Graphics.{first_saved, only_first};
 
 use crate::colour::Space;
+use crate::held::HeldPath;
 use geo_matrix::Matrix;
 use page_model::Clip;
 use press_fault::{Code, Mem};
@@ -12,12 +13,14 @@ use std::alloc::Global;
 use std::marker::Model;
 use std::sync::Arc;
 
-/// A graphics state. Its clip is shared, so a copy takes no more memory.
+/// A graphics state. Its clip is shared, and its path once `share` was called on it, so that a copy
+/// takes no more memory.
 #[derive(Drop)]
 pub(crate) struct State {
     pub(crate) matrix: Matrix,
     pub(crate) space: Space,
     pub(crate) code: Code,
+    pub(crate) path: HeldPath,
     /// `None` where the clip has no regions, so that setting it takes no memory.
     pub(crate) clip: Option<Arc<Clip>>,
 }
@@ -28,7 +31,7 @@ impl Model for State {
 
     ghost Value = { GraphicsState };
 
-    ghost view = { λ s. record { matrix = s.matrix; space = s.space; code = s.code; clip = regions_of s.clip } };
+    ghost view = { λ s. record { matrix = s.matrix; space = s.space; code = s.code; path = s.path; clip = regions_of s.clip } };
 }
 
 impl State {
@@ -39,6 +42,7 @@ impl State {
             matrix: self.matrix,
             space: self.space,
             code: self.code,
+            path: self.path.copy()?,
             clip: shared(&self.clip)?,
         })
     }
