@@ -1,5 +1,5 @@
 -- The state saved first, of states that are kept in the order in which they were saved.
-use Rattle.std.proofs.Common.{◌≡◌, ◌∙◌, ap, sym, refl, List, [], ◌∷◌, take, reverse, Option, slice_get}
+use Rattle.std.proofs.Common.{◌≡◌, ◌∙◌, ap, sym, refl, List, [], ◌∷◌, take, reverse, slice_get}
 use Rattle.std.proofs.lemmas.List.{reverse-reverse}
 use Rattle.gfx_state.specs.Graphics.{GraphicsState, first_saved, only_first}
 

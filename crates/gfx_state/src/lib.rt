@@ -6,6 +6,8 @@
 #![tactic(auto)]
 
 mod colour;
+#[cfg(test)]
+mod drawn;
 mod gfx;
 mod held;
 mod matrices;

@@ -1,4 +1,4 @@
-use Rattle.std.proofs.Common.{◌∙◌, sym, ap, Some}
+use Rattle.std.proofs.Common.{◌∙◌, ap, Some}
 use Rattle.gfx_state.proofs.SavedLemmas.{first_of}
 use Rattle.gfx_state.proofs.state.Saved.first.Goals as goal
 
