@@ -272,248 +272,225 @@ fn a_failing_line_changes_no_answer(rt: HostRuntime) -> Result<(), Fail> {
     Ok(())
 }
 
-/// The pages of a program on a page of some size, as letters: W, B and R are white, black and red dots, a space
-/// stands between rows, and `?` for another dot; and then the line on standard error.
+/// What a program marks tells what its operators mean: red, white and black dots, and then the line on standard error.
 #[test]
 fn programs_mean_what_the_language_says(rt: HostRuntime) -> Result<(), Fail> {
     let cases = [
         (
             "arithmetic",
-            "2x1",
+            "--size 2x1 p.ps",
             "1 0 0 setrgbcolor 7 -2 idiv -3 eq -7 2 mod -1 eq and {0 0 1 1 rectfill} if showpage",
-            "RW",
+            b"P6\n2 1\n255\n\xff\x00\x00\xff\xff\xff".as_slice(),
             "",
         ),
         (
             "a caught error",
-            "4x2",
+            "--size 4x2 p.ps",
             "{1 0 div} stopped {1 0 0 setrgbcolor} if 0 0 4 2 rectfill showpage",
-            "RRRRRRRR",
+            b"P6\n4 2\n255\n\xff\x00\x00\xff\x00\x00\xff\x00\x00\xff\x00\x00\xff\x00\x00\xff\x00\x00\xff\x00\x00\xff\x00\x00",
             "",
         ),
         (
             "exit in stopped",
-            "1x1",
+            "--size 1x1 p.ps",
             "{exit} stopped {showpage} if",
-            "W",
+            b"P6\n1 1\n255\n\xff\xff\xff",
             "",
         ),
         (
             "exit alone",
-            "1x1",
+            "--size 1x1 p.ps",
             "exit",
-            "",
+            b"",
             "render: invalidexit in exit\n",
         ),
         (
             "a procedure by its name",
-            "1x1",
+            "--size 1x1 p.ps",
             "/w {showpage} def w",
-            "W",
+            b"P6\n1 1\n255\n\xff\xff\xff",
             "",
         ),
         (
             "65,536 bytes",
-            "1x1",
+            "--size 1x1 p.ps",
             "65536 string",
-            "",
+            b"",
             "render: limitcheck in string\n",
         ),
         (
             "an unclosed procedure",
-            "1x1",
+            "--size 1x1 p.ps",
             "{",
-            "",
+            b"",
             "render: syntaxerror in scan\n",
         ),
         (
             "a lone brace",
-            "1x1",
+            "--size 1x1 p.ps",
             "}",
-            "",
+            b"",
             "render: syntaxerror in scan\n",
         ),
         (
             "an immediate name that is not there",
-            "1x1",
+            "--size 1x1 p.ps",
             "//zz",
-            "",
+            b"",
             "render: undefined in zz\n",
         ),
         (
             "an empty immediate name",
-            "1x1",
+            "--size 1x1 p.ps",
             "//",
-            "",
+            b"",
             "render: undefined in \n",
         ),
         (
             "an immediate operator",
-            "1x1",
+            "--size 1x1 p.ps",
             "1 //add",
-            "",
+            b"",
             "render: stackunderflow in add\n",
         ),
         (
             "an immediate procedure is pushed",
-            "1x1",
+            "--size 1x1 p.ps",
             "/p {1} def //p xcheck {0 0 1 1 rectfill} if showpage",
-            "B",
+            b"P6\n1 1\n255\n\x00\x00\x00",
             "",
         ),
         (
             "a nested procedure is an element",
-            "1x1",
+            "--size 1x1 p.ps",
             "{{1}} exec xcheck {0 0 1 1 rectfill} if showpage",
-            "B",
+            b"P6\n1 1\n255\n\x00\x00\x00",
             "",
         ),
         (
             "a name that leads to a name",
-            "1x1",
+            "--size 1x1 p.ps",
             "/a /b cvx def a",
-            "",
+            b"",
             "render: undefined in b\n",
         ),
         (
             "a name that leads to an operator",
-            "1x1",
+            "--size 1x1 p.ps",
             "/p /add cvx def p",
-            "",
+            b"",
             "render: stackunderflow in add\n",
         ),
         (
             "stop",
-            "1x1",
+            "--size 1x1 p.ps",
             "{stop} stopped {0 0 1 1 rectfill} if showpage",
-            "B",
+            b"P6\n1 1\n255\n\x00\x00\x00",
             "",
         ),
         (
             "stop alone",
-            "1x1",
+            "--size 1x1 p.ps",
             "stop",
-            "",
+            b"",
             "render: invalidexit in stop\n",
         ),
         (
             "exec of a name",
-            "1x1",
+            "--size 1x1 p.ps",
             "/zz cvx exec",
-            "",
+            b"",
             "render: undefined in zz\n",
         ),
         (
             "too many levels",
-            "1x1",
+            "--size 1x1 p.ps",
             "/w {w} def w",
-            "",
+            b"",
             "render: execstackoverflow in w\n",
         ),
-        ("quit", "1x1", "showpage quit showpage", "W", ""),
+        (
+            "quit",
+            "--size 1x1 p.ps",
+            "showpage quit showpage",
+            b"P6\n1 1\n255\n\xff\xff\xff",
+            "",
+        ),
         (
             "a loop with no room for what it pushes",
-            "1x1",
+            "--size 1x1 p.ps",
             "1 0 2 {} for",
-            "",
+            b"",
             "render: stackoverflow in for\n",
         ),
         (
             "stopped with no room",
-            "1x1",
+            "--size 1x1 p.ps",
             "499 {1} repeat {{1 1} stopped} stopped",
-            "",
+            b"",
             "render: stackoverflow in stopped\n",
         ),
         (
             "all operators",
-            "1x1",
+            "--size 1x1 p.ps",
             "systemdict length 92 eq {0 0 1 1 rectfill} if showpage",
-            "B",
+            b"P6\n1 1\n255\n\x00\x00\x00",
             "",
         ),
         (
             "the first operator",
-            "1x1",
+            "--size 1x1 p.ps",
             "systemdict {pop /pop eq exit} forall {0 0 1 1 rectfill} if showpage",
-            "B",
+            b"P6\n1 1\n255\n\x00\x00\x00",
             "",
         ),
         (
             "reading from the program",
-            "1x1",
+            "--size 1x1 p.ps",
             "/r {currentfile 3 string readstring pop} def r abc(abc) eq {0 0 1 1 rectfill} if showpage",
-            "B",
+            b"P6\n1 1\n255\n\x00\x00\x00",
             "",
         ),
         (
             "a half gray",
-            "1x1",
+            "--size 1x1 p.ps",
             ".5 setgray currentgray 2 mul 1.00392 sub abs .001 lt {0 0 1 1 rectfill} if showpage",
-            "?",
+            b"P6\n1 1\n255\n\x80\x80\x80",
             "",
         ),
         (
             "too far away",
-            "1x1",
+            "--size 1x1 p.ps",
             "99999999 0 1 1 rectfill",
-            "",
+            b"",
             "render: limitcheck in rectfill\n",
         ),
         (
             "a sum out of range",
-            "1x1",
+            "--size 1x1 p.ps",
             "99999999 2147483647 0 1 rectfill",
-            "",
+            b"",
             "render: undefinedresult in rectfill\n",
         ),
         (
             "erased",
-            "1x1",
+            "--size 1x1 p.ps",
             "0 0 1 1 rectfill erasepage showpage",
-            "W",
+            b"P6\n1 1\n255\n\xff\xff\xff",
             "",
         ),
         (
             "colours of four inks",
-            "1x1",
+            "--size 1x1 p.ps",
             "0 1 1 0 setcmykcolor 0 0 1 1 rectfill showpage",
-            "R",
+            b"P6\n1 1\n255\n\xff\x00\x00",
             "",
         ),
     ];
-    for (name, size, program, dots, line) in cases {
-        let words = ["--size", size, "p.ps"];
-        let outcome = run(&rt, &words, Some(program.as_bytes()), &AMPLE, &AMPLE)?;
-        assert_eq!(rt; letters(&rt, outcome.out.bytes())?.as_str(), dots, "{name}");
+    for (name, words, program, bytes, line) in cases {
+        let outcome = run(&rt, words, Some(program.as_bytes()), &AMPLE, &AMPLE)?;
+        assert_eq!(rt; outcome.out.bytes(), bytes, "{name}");
         assert_eq!(rt; outcome.err.bytes(), line.as_bytes(), "{name}");
     }
     Ok(())
-}
-
-/// The dots of the first page as letters.
-fn letters(rt: &HostRuntime, bytes: &[u8]) -> Result<String, Fail> {
-    let mut text = String::new(rt.alloc());
-    let mut lines = 0;
-    let mut at = 0;
-    for (i, byte) in bytes.iter().enumerate() {
-        if lines < 3 && *byte == b'\n' {
-            lines += 1;
-            at = i + 1;
-        }
-    }
-    let (_, dots) = bytes.split_at(at.min(bytes.len()));
-    for dot in dots.chunks(3) {
-        text.push(letter(dot))?;
-    }
-    Ok(text)
-}
-
-fn letter(dot: &[u8]) -> char {
-    match dot {
-        [255, 255, 255] => 'W',
-        [255, 0, 0] => 'R',
-        [0, 0, 0] => 'B',
-        _ => '?',
-    }
 }
