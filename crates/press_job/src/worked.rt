@@ -271,3 +271,265 @@ fn a_failing_line_changes_no_answer(rt: HostRuntime) -> Result<(), Fail> {
     }
     Ok(())
 }
+
+/// What a program marks tells how its tokens were read: red, white and black dots, or the line of its error.
+#[test]
+fn tokens_become_objects(rt: HostRuntime) -> Result<(), Fail> {
+    let cases = [
+        (
+            "arithmetic",
+            "--size 2x1 p.ps",
+            "1 0 0 setrgbcolor 7 -2 idiv -3 eq -7 2 mod -1 eq and {0 0 1 1 rectfill} if showpage",
+            b"P6\n2 1\n255\n\xff\x00\x00\xff\xff\xff".as_slice(),
+            "",
+        ),
+        (
+            "a procedure by its name",
+            "--size 1x1 p.ps",
+            "/w {showpage} def w",
+            b"P6\n1 1\n255\n\xff\xff\xff",
+            "",
+        ),
+        (
+            "65,536 bytes",
+            "--size 1x1 p.ps",
+            "65536 string",
+            b"",
+            "render: limitcheck in string\n",
+        ),
+        (
+            "an unclosed procedure",
+            "--size 1x1 p.ps",
+            "{",
+            b"",
+            "render: syntaxerror in scan\n",
+        ),
+        (
+            "a lone brace",
+            "--size 1x1 p.ps",
+            "}",
+            b"",
+            "render: syntaxerror in scan\n",
+        ),
+        (
+            "an immediate name that is not there",
+            "--size 1x1 p.ps",
+            "//zz",
+            b"",
+            "render: undefined in zz\n",
+        ),
+        (
+            "an empty immediate name",
+            "--size 1x1 p.ps",
+            "//",
+            b"",
+            "render: undefined in \n",
+        ),
+        (
+            "an immediate operator",
+            "--size 1x1 p.ps",
+            "1 //add",
+            b"",
+            "render: stackunderflow in add\n",
+        ),
+    ];
+    for (name, words, program, bytes, line) in cases {
+        let outcome = run(&rt, words, Some(program.as_bytes()), &AMPLE, &AMPLE)?;
+        assert_eq!(rt; outcome.out.bytes(), bytes, "{name}");
+        assert_eq!(rt; outcome.err.bytes(), line.as_bytes(), "{name}");
+    }
+    Ok(())
+}
+
+/// What a program marks tells what its names and procedures did.
+#[test]
+fn names_and_procedures_are_executed(rt: HostRuntime) -> Result<(), Fail> {
+    let cases = [
+        (
+            "an immediate procedure is pushed",
+            "--size 1x1 p.ps",
+            "/p {1} def //p xcheck {0 0 1 1 rectfill} if showpage",
+            b"P6\n1 1\n255\n\x00\x00\x00".as_slice(),
+            "",
+        ),
+        (
+            "a nested procedure is an element",
+            "--size 1x1 p.ps",
+            "{{1}} exec xcheck {0 0 1 1 rectfill} if showpage",
+            b"P6\n1 1\n255\n\x00\x00\x00",
+            "",
+        ),
+        (
+            "a name that leads to a name",
+            "--size 1x1 p.ps",
+            "/a /b cvx def a",
+            b"",
+            "render: undefined in b\n",
+        ),
+        (
+            "a name that leads to an operator",
+            "--size 1x1 p.ps",
+            "/p /add cvx def p",
+            b"",
+            "render: stackunderflow in add\n",
+        ),
+        (
+            "exec of a name",
+            "--size 1x1 p.ps",
+            "/zz cvx exec",
+            b"",
+            "render: undefined in zz\n",
+        ),
+        (
+            "all operators",
+            "--size 1x1 p.ps",
+            "systemdict length 92 eq {0 0 1 1 rectfill} if showpage",
+            b"P6\n1 1\n255\n\x00\x00\x00",
+            "",
+        ),
+        (
+            "the first operator",
+            "--size 1x1 p.ps",
+            "systemdict {pop /pop eq exit} forall {0 0 1 1 rectfill} if showpage",
+            b"P6\n1 1\n255\n\x00\x00\x00",
+            "",
+        ),
+        (
+            "reading from the program",
+            "--size 1x1 p.ps",
+            "/r {currentfile 3 string readstring pop} def r abc(abc) eq {0 0 1 1 rectfill} if showpage",
+            b"P6\n1 1\n255\n\x00\x00\x00",
+            "",
+        ),
+    ];
+    for (name, words, program, bytes, line) in cases {
+        let outcome = run(&rt, words, Some(program.as_bytes()), &AMPLE, &AMPLE)?;
+        assert_eq!(rt; outcome.out.bytes(), bytes, "{name}");
+        assert_eq!(rt; outcome.err.bytes(), line.as_bytes(), "{name}");
+    }
+    Ok(())
+}
+
+/// What `exit`, `stop` and the limits of levels and operands leave.
+#[test]
+fn exit_and_stop_leave_what_they_should(rt: HostRuntime) -> Result<(), Fail> {
+    let cases = [
+        (
+            "a caught error",
+            "--size 4x2 p.ps",
+            "{1 0 div} stopped {1 0 0 setrgbcolor} if 0 0 4 2 rectfill showpage",
+            b"P6\n4 2\n255\n\xff\x00\x00\xff\x00\x00\xff\x00\x00\xff\x00\x00\xff\x00\x00\xff\x00\x00\xff\x00\x00\xff\x00\x00".as_slice(),
+            "",
+        ),
+        (
+            "exit in stopped",
+            "--size 1x1 p.ps",
+            "{exit} stopped {showpage} if",
+            b"P6\n1 1\n255\n\xff\xff\xff",
+            "",
+        ),
+        (
+            "exit alone",
+            "--size 1x1 p.ps",
+            "exit",
+            b"",
+            "render: invalidexit in exit\n",
+        ),
+        (
+            "stop",
+            "--size 1x1 p.ps",
+            "{stop} stopped {0 0 1 1 rectfill} if showpage",
+            b"P6\n1 1\n255\n\x00\x00\x00",
+            "",
+        ),
+        (
+            "stop alone",
+            "--size 1x1 p.ps",
+            "stop",
+            b"",
+            "render: invalidexit in stop\n",
+        ),
+        (
+            "too many levels",
+            "--size 1x1 p.ps",
+            "/w {w} def w",
+            b"",
+            "render: execstackoverflow in w\n",
+        ),
+        (
+            "quit",
+            "--size 1x1 p.ps",
+            "showpage quit showpage",
+            b"P6\n1 1\n255\n\xff\xff\xff",
+            "",
+        ),
+        (
+            "a loop with no room for what it pushes",
+            "--size 1x1 p.ps",
+            "1 0 2 {} for",
+            b"",
+            "render: stackoverflow in for\n",
+        ),
+        (
+            "stopped with no room",
+            "--size 1x1 p.ps",
+            "499 {1} repeat {{1 1} stopped} stopped",
+            b"",
+            "render: stackoverflow in stopped\n",
+        ),
+    ];
+    for (name, words, program, bytes, line) in cases {
+        let outcome = run(&rt, words, Some(program.as_bytes()), &AMPLE, &AMPLE)?;
+        assert_eq!(rt; outcome.out.bytes(), bytes, "{name}");
+        assert_eq!(rt; outcome.err.bytes(), line.as_bytes(), "{name}");
+    }
+    Ok(())
+}
+
+/// Colours, places out of range, and a page erased.
+#[test]
+fn marks_have_their_colours_and_places(rt: HostRuntime) -> Result<(), Fail> {
+    let cases = [
+        (
+            "a half gray",
+            "--size 1x1 p.ps",
+            ".5 setgray currentgray 2 mul 1.00392 sub abs .001 lt {0 0 1 1 rectfill} if showpage",
+            b"P6\n1 1\n255\n\x80\x80\x80".as_slice(),
+            "",
+        ),
+        (
+            "too far away",
+            "--size 1x1 p.ps",
+            "99999999 0 1 1 rectfill",
+            b"",
+            "render: limitcheck in rectfill\n",
+        ),
+        (
+            "a sum out of range",
+            "--size 1x1 p.ps",
+            "99999999 2147483647 0 1 rectfill",
+            b"",
+            "render: undefinedresult in rectfill\n",
+        ),
+        (
+            "erased",
+            "--size 1x1 p.ps",
+            "0 0 1 1 rectfill erasepage showpage",
+            b"P6\n1 1\n255\n\xff\xff\xff",
+            "",
+        ),
+        (
+            "colours of four inks",
+            "--size 1x1 p.ps",
+            "0 1 1 0 setcmykcolor 0 0 1 1 rectfill showpage",
+            b"P6\n1 1\n255\n\xff\x00\x00",
+            "",
+        ),
+    ];
+    for (name, words, program, bytes, line) in cases {
+        let outcome = run(&rt, words, Some(program.as_bytes()), &AMPLE, &AMPLE)?;
+        assert_eq!(rt; outcome.out.bytes(), bytes, "{name}");
+        assert_eq!(rt; outcome.err.bytes(), line.as_bytes(), "{name}");
+    }
+    Ok(())
+}
