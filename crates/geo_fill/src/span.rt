@@ -43,6 +43,7 @@ impl Model for Spans {
 }
 
 impl Spans {
+    /// No spans.
     pub fn new(alloc: Global) -> Self
         ensures { result ≡ [] }
     {
@@ -69,6 +70,7 @@ impl Spans {
         self.spans.clear();
     }
 
+    /// The spans, from left to right.
     pub fn items(&self) -> &[Span]
         ensures { result.now ≡ self.now }
     {

@@ -72,6 +72,9 @@ impl Model for Angles {
 }
 
 impl Angles {
+    /// The angles of an arc: from its start on, each multiple of 90/64 degrees strictly between,
+    /// and its end, which is `to`, raised (clockwise: lowered) by whole turns until it isn't short
+    /// of the start.
     pub fn new(from: Fix, to: Fix, clockwise: bool) -> Angles
         ensures { result ≡ angles_of clockwise from to }
     {

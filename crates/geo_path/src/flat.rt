@@ -48,6 +48,7 @@ impl Model for Lines {
 }
 
 impl Lines {
+    /// No lines.
     pub fn new(alloc: Global) -> Lines
         ensures { result ≡ [] }
     {
@@ -78,6 +79,7 @@ impl Lines {
         Ok(rings)
     }
 
+    /// The lines, in the order of their subpaths.
     pub fn items(&self) -> &[Line]
         ensures value { result.now ≡ self.now }
         ensures near { All IsNearLine result.now }

@@ -28,6 +28,7 @@ impl Model for Parts {
 }
 
 impl Parts {
+    /// No subpaths.
     pub fn new(alloc: Global) -> Parts
         ensures { result ≡ record { before = []; last = None } }
     {
@@ -52,12 +53,14 @@ impl Parts {
         Ok(Parts { before, last })
     }
 
+    /// The subpaths before the last one.
     pub fn before(&self) -> &[Subpath]
         ensures { result.now ≡ self.now.before }
     {
         &self.before
     }
 
+    /// The last subpath, which lines and curves are added to; `None` for an empty path.
     pub fn last(&self) -> Option<&Subpath>
         ensures { option_copied result ≡ self.now.last }
     {

@@ -30,6 +30,7 @@ impl Model for Subpath {
 }
 
 impl Subpath {
+    /// The subpath of a move alone.
     pub fn new(alloc: Global, start: Point) -> Subpath
         requires { IsNear start }
         ensures { result ≡ opened start }
@@ -54,12 +55,14 @@ impl Subpath {
         })
     }
 
+    /// Whether `closepath` was its end.
     pub fn is_closed(&self) -> bool
         ensures { result ≡ self.now.closed }
     {
         self.closed
     }
 
+    /// The point of its move, in sub-dots.
     pub fn start(&self) -> Point
         ensures value { result ≡ self.now.start }
         ensures near { IsNear result }
@@ -67,6 +70,7 @@ impl Subpath {
         self.start
     }
 
+    /// The lines and curves after the start, in order.
     pub fn segments(&self) -> &[Segment]
         ensures items { result.now ≡ self.now.segments }
         ensures near { IsNearSubpath self.now }
@@ -81,6 +85,8 @@ impl Subpath {
         if self.closed { self.start } else { self.end }
     }
 
+    /// Closes it, by a line to its start (PostScript Language Reference, third edition, 8.2
+    /// closepath).
     pub fn close(&mut self)
         ensures { self.new ≡ closed_subpath self.old }
     {

@@ -20,6 +20,7 @@ impl Model for Bytes {
 }
 
 impl Bytes {
+    /// No codes.
     pub fn new(alloc: Global) -> Self
         ensures { result ≡ [] }
     {
@@ -42,6 +43,7 @@ impl Bytes {
         self.bytes
     }
 
+    /// Adds a code at the end. Out of memory leaves the list as before.
     pub fn push(&mut self, item: u8) -> Mem<()>
         ensures ok { OnOk result (self.new ≡ self.old ++ item ∷ []) }
         ensures err { OnErr result (self.new ≡ self.old) }
@@ -50,6 +52,7 @@ impl Bytes {
         Ok(())
     }
 
+    /// The codes, in order.
     pub fn items(&self) -> &[u8]
         ensures { result.now ≡ self.now }
     {

@@ -47,6 +47,7 @@ impl Disc {
         }
     }
 
+    /// The column of the centre, in sub-dots, for sums and products.
     pub fn wide_x(self) -> Wide
         ensures value { result ≡ self.x }
         ensures bound { IsWithin result }
@@ -54,6 +55,7 @@ impl Disc {
         Wide::of(self.x)
     }
 
+    /// The height of the centre, in sub-dots down the page, for sums and products.
     pub fn wide_y(self) -> Wide
         ensures value { result ≡ self.y }
         ensures bound { IsWithin result }
@@ -61,6 +63,7 @@ impl Disc {
         Wide::of(self.y)
     }
 
+    /// The radius in sub-dots, for sums and products.
     pub fn wide_r(self) -> Wide
         ensures value { result ≡ pos self.r }
         ensures bound { IsWithin result }
@@ -92,6 +95,7 @@ impl Model for Shapes {
 }
 
 impl Shapes {
+    /// An empty list.
     pub fn new(alloc: Global) -> Self
         ensures { result ≡ [] }
     {
@@ -100,6 +104,7 @@ impl Shapes {
         }
     }
 
+    /// Adds one at the end. Out of memory leaves the list as before.
     pub fn push(&mut self, item: Shape) -> Mem<()>
         ensures ok { OnOk result (self.new ≡ self.old ++ item ∷ []) }
         ensures err { OnErr result (self.new ≡ self.old) }
@@ -108,6 +113,7 @@ impl Shapes {
         Ok(())
     }
 
+    /// All of them, in order.
     pub fn items(&self) -> &[Shape]
         ensures { result.now ≡ self.now }
     {
@@ -138,6 +144,7 @@ impl Model for Clip {
 }
 
 impl Clip {
+    /// An empty list.
     pub fn new(alloc: Global) -> Self
         ensures { result ≡ [] }
     {
@@ -146,6 +153,7 @@ impl Clip {
         }
     }
 
+    /// Adds one at the end. Out of memory leaves the list as before.
     pub fn push(&mut self, item: Region) -> Mem<()>
         ensures ok { OnOk result (self.new ≡ self.old ++ item ∷ []) }
         ensures err { OnErr result (self.new ≡ self.old) }
@@ -154,6 +162,7 @@ impl Clip {
         Ok(())
     }
 
+    /// All of them, in order.
     pub fn items(&self) -> &[Region]
         ensures { result.now ≡ self.now }
     {

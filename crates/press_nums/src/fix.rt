@@ -27,6 +27,7 @@ impl Model for Fix {
 }
 
 impl Fix {
+    /// The number of an integer.
     pub fn of_int(v: i32) -> Fix
         ensures { result ≡ v *ℤ pos 65536 }
     {
@@ -42,6 +43,7 @@ impl Fix {
         Fix::of_int(v.get())
     }
 
+    /// So many 1/65536; `None` exactly out of range, below -2^47 or from 2^47 on.
     pub fn of_raw(n: i64) -> Option<Fix>
         ensures { result ≡ fix_of n }
     {
@@ -52,6 +54,7 @@ impl Fix {
         }
     }
 
+    /// How many 1/65536 it is.
     pub fn raw(self) -> i64
         ensures value { result ≡ self }
         ensures bound { unsigned_abs result ≤ 2 ^ 47 }
@@ -136,12 +139,14 @@ pub fn fix_from(raw: Wide) -> Option<Fix>
     }
 }
 
+/// The sum; `None` exactly out of range.
 pub fn fix_add(a: Fix, b: Fix) -> Option<Fix>
     ensures { result ≡ fix_of (a +ℤ b) }
 {
     fix_from(a.wide() + b.wide())
 }
 
+/// The difference; `None` exactly out of range.
 pub fn fix_sub(a: Fix, b: Fix) -> Option<Fix>
     ensures { result ≡ fix_of (a -ℤ b) }
 {
@@ -156,12 +161,15 @@ pub fn wide_product(a: Fix, b: Fix) -> Wide
     a.wide() * b.wide()
 }
 
+/// The product, rounded to the nearest 1/65536, a tie going up; `None` exactly out of range.
 pub fn fix_mul(a: Fix, b: Fix) -> Option<Fix>
     ensures { result ≡ product_of a b }
 {
     fix_from(wide_product(a, b).div_round(Wide::of(65536)))
 }
 
+/// The quotient, rounded to the nearest 1/65536, a tie going up; `None` exactly for a zero divisor
+/// and out of range.
 pub fn fix_div(a: Fix, b: Fix) -> Option<Fix>
     ensures { result ≡ quotient_of a b }
 {

@@ -22,12 +22,14 @@ impl Model for Whole {
 }
 
 impl Whole {
+    /// The integer of these 32 bits.
     pub fn of(n: i32) -> Whole
         ensures { result ≡ n }
     {
         Whole { n }
     }
 
+    /// The same integer as a plain one.
     pub fn get(self) -> i32
         ensures { result ≡ self }
     {

@@ -31,6 +31,7 @@ impl Model for Flow {
 }
 
 impl Flow {
+    /// No level is open. There is room for all levels from the start.
     pub fn new(alloc: Global) -> Flow
         ensures { result ≡ [] }
     {

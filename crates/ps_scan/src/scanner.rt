@@ -53,6 +53,7 @@ impl Model for Scanner {
 }
 
 impl Scanner {
+    /// A scanner at the start of a program, with no procedure open.
     pub fn new(program: Vec<u8>) -> Scanner
         ensures { result ≡ record { depth = 0; rest = program.items } }
     {

@@ -24,6 +24,7 @@ impl Model for Bytes {
 }
 
 impl Bytes {
+    /// No bytes.
     pub fn new(alloc: Global) -> Self
         ensures { result ≡ [] }
     {
@@ -41,6 +42,7 @@ impl Bytes {
         })
     }
 
+    /// Adds a byte at the end. Out of memory leaves the list as before.
     pub fn push(&mut self, item: u8) -> Mem<()>
         ensures ok { OnOk result (self.new ≡ self.old ++ item ∷ []) }
         ensures err { OnErr result (self.new ≡ self.old) }
@@ -49,6 +51,7 @@ impl Bytes {
         Ok(())
     }
 
+    /// The bytes, in order.
     pub fn items(&self) -> &[u8]
         ensures { result.now ≡ self.now }
     {

@@ -42,6 +42,7 @@ impl Bytes {
         })
     }
 
+    /// How many there are.
     pub fn len(&self) -> usize
         ensures { result ≡ length self.now }
     {
@@ -56,6 +57,7 @@ impl Bytes {
         part_of(&self.bytes, start, len)
     }
 
+    /// Writes one place; past the end it changes nothing.
     pub fn set(&mut self, at: usize, value: u8)
         ensures { self.new ≡ slice_set self.old at value }
     {
@@ -110,6 +112,7 @@ impl Elements {
         })
     }
 
+    /// How many there are.
     pub fn len(&self) -> usize
         ensures { result ≡ length self.now }
     {
@@ -124,6 +127,7 @@ impl Elements {
         part_of(&self.items, start, len)
     }
 
+    /// Writes one place; past the end it changes nothing.
     pub fn set(&mut self, at: usize, value: Obj)
         ensures { self.new ≡ slice_set self.old at value }
     {

@@ -35,6 +35,7 @@ impl Model for Entries {
 }
 
 impl Entries {
+    /// No entries.
     pub fn new(alloc: Global) -> Entries
         ensures { result ≡ [] }
     {
@@ -43,6 +44,7 @@ impl Entries {
         }
     }
 
+    /// How many entries there are.
     pub fn len(&self) -> usize
         ensures length { result ≡ length self.now }
         ensures bound { result ≤ 65535 }

@@ -31,6 +31,7 @@ impl Model for Stack {
 }
 
 impl Stack {
+    /// No operands.
     pub fn new() -> Stack
         ensures { result ≡ [] }
     {
@@ -39,6 +40,7 @@ impl Stack {
         }
     }
 
+    /// How many operands there are.
     pub fn len(&self) -> usize
         ensures length { result ≡ length self.now }
         ensures bound { result ≤ 500 }

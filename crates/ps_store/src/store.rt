@@ -45,6 +45,7 @@ impl Model for Store {
 }
 
 impl Store {
+    /// A store in which nothing was made.
     pub fn new(alloc: Global) -> Store
         ensures { result ≡ record { made = []; units = 0 } }
     {
