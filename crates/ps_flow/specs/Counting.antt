@@ -5,21 +5,16 @@ use Rattle.std.specs.Option.{option_map}
 use Rattle.press_nums.specs.Fix.{fix_of}
 use Rattle.press_nums.specs.Whole.{whole_of}
 use Rattle.ps_store.specs.declared.obj.Obj.{Obj}
+use Rattle.ps_store.specs.Numbers.{raw_of_whole}
 use Rattle.ps_store.specs.declared.obj.Obj.TheVariants.{Int, Real}
 use Rattle.ps_flow.specs.declared.counter.Counter.{Counter}
 use Rattle.ps_flow.specs.declared.counter.Counter.TheVariants.{Integers, Reals}
 
--- a number in 1/65536
-abbrev pub raw_of : Obj → Option ℤ
-raw_of (Int n) = Some (n *ℤ pos 65536)
-raw_of (Real r) = Some r
-raw_of o = None
-
 -- the control variable is an integer where the first value and the step are
 abbrev pub counter_from : Obj → Obj → Option Counter
 counter_from (Int at) (Int step) = Some (Integers at step)
-counter_from (Int at) (Real step) = Some (Reals (at *ℤ pos 65536) step)
-counter_from (Real at) (Int step) = Some (Reals at (step *ℤ pos 65536))
+counter_from (Int at) (Real step) = Some (Reals (raw_of_whole at) step)
+counter_from (Real at) (Int step) = Some (Reals at (raw_of_whole step))
 counter_from (Real at) (Real step) = Some (Reals at step)
 counter_from at step = None
 
@@ -34,7 +29,7 @@ passes at step limit = if int_lt step (pos 0) then int_lt at limit else int_lt l
 
 -- whether a value is past a limit in 1/65536
 abbrev pub is_past : Counter → ℤ → Bool
-is_past (Integers at step) limit = passes (at *ℤ pos 65536) step limit
+is_past (Integers at step) limit = passes (raw_of_whole at) step limit
 is_past (Reals at step) limit = passes at step limit
 
 -- the value with the step added, where it is in range

@@ -15,7 +15,8 @@ use Rattle.ps_flow.specs.declared.counter.Counter.{Counter}
 use Rattle.ps_flow.specs.declared.level.Level.{Level}
 use Rattle.ps_flow.specs.declared.level.Level.TheVariants.{Procedure, Stopped, Loop, Repeat, For, Forall, ForallEntries}
 use Rattle.ps_flow.specs.Binding.{bind_store}
-use Rattle.ps_flow.specs.Counting.{counter_from, raw_of}
+use Rattle.ps_store.specs.Numbers.{raw_of}
+use Rattle.ps_flow.specs.Counting.{counter_from}
 use Rattle.ps_flow.specs.Levels.{nothing_of, below_loop, below_stopped}
 use Rattle.ps_flow.specs.Course.{Course, opens, with_store, with_levels}
 

@@ -1,6 +1,6 @@
 //! The control variable of a `for`.
 ghost use Rattle.std.specs.Prelude.{◌≡◌};
-ghost use Rattle.ps_flow.specs.Counting.{passes, is_past, value_of, next_of_counter, counter_from, raw_of};
+ghost use Rattle.ps_flow.specs.Counting.{passes, is_past, value_of, next_of_counter, counter_from};
 
 use press_nums::{Fix, Whole, Wide, fix_add, whole_from};
 use ps_store::Obj;
@@ -93,16 +93,5 @@ fn passes(at: Wide, step: Wide, limit: Wide) -> bool
         at.is_below(limit)
     } else {
         limit.is_below(at)
-    }
-}
-
-/// A number in 1/65536, `None` where an object is none.
-pub(crate) fn raw(o: &Obj) -> Option<Fix>
-    ensures { result ≡ raw_of o.now }
-{
-    match o {
-        Obj::Int(n) => Some(Fix::of_whole(*n)),
-        Obj::Real(r) => Some(*r),
-        _ => None,
     }
 }

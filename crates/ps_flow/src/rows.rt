@@ -7,12 +7,12 @@ ghost use Rattle.ps_flow.specs.Levels.{nothing_of};
 
 use crate::binding::bind_procedure;
 use crate::contents::{Objects, Pairs};
-use crate::counter::{Counter, raw};
+use crate::counter::Counter;
 use crate::flow::Flow;
 use crate::level::{Level, nothing_of};
 use press_fault::{Mem, PsName};
 use press_nums::Fix;
-use ps_store::{Dicts, FlowOp, Obj, OpFault, Span, Stack, Store};
+use ps_store::{Dicts, FlowOp, Obj, OpFault, Span, Stack, Store, number};
 use std::alloc::Global;
 
 /// What the operators answer: an object that is to be executed at once, or why not.
@@ -122,7 +122,7 @@ fn for_(stack: &mut Stack, flow: &mut Flow) -> Then
     };
     match p {
         Obj::Array(p, true) => {
-            let (body, counter, limit) = (*p, Counter::from(first, step), raw(limit));
+            let (body, counter, limit) = (*p, Counter::from(first, step), number(limit));
             for_from(stack, flow, body, counter, limit)
         }
         _ => Err(OpFault::Ps(PsName::TypeCheck)),

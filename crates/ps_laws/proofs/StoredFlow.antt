@@ -21,7 +21,8 @@ use Rattle.ps_flow.specs.declared.counter.Counter.{Counter}
 use Rattle.ps_flow.specs.declared.level.Level.{Level}
 use Rattle.ps_flow.specs.declared.level.Level.TheVariants.{Procedure, Stopped, Loop, Repeat, For, Forall, ForallEntries}
 use Rattle.ps_flow.specs.Binding.{operator_named, bound_to, bound, changed_items, changed_in, changed_made, changed_store, is_reached_place, bind_store}
-use Rattle.ps_flow.specs.Counting.{counter_from, raw_of}
+use Rattle.ps_store.specs.Numbers.{raw_of}
+use Rattle.ps_flow.specs.Counting.{counter_from}
 use Rattle.ps_flow.specs.Levels.{nothing_of, is_loop, is_stopped, below_loop, below_stopped}
 use Rattle.ps_flow.specs.Course.{Course, opens, with_store, with_levels}
 use Rattle.ps_flow.specs.Rows.{exec_row, if_row, ifelse_row, for_from, for_row, repeat_row, loop_row, keys_and_values, forall_row, cut_back, stopped_row, bind_row, flow_row}

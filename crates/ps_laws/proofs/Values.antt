@@ -8,7 +8,8 @@ use Rattle.press_nums.specs.Fix.{fix_root_of, quotient_of}
 use Rattle.geo_matrix.specs.Sine.{sine_of, cosine_of}
 use Rattle.ps_store.specs.declared.obj.Obj.{Obj}
 use Rattle.ps_store.specs.declared.obj.Obj.TheVariants.{Bool as Truth, Int, Real}
-use Rattle.ps_stack_ops.specs.Numbers.{raw_of, number_of, pair_of, of_pair, integer, real}
+use Rattle.ps_store.specs.Numbers.{raw_of, raw_of_whole}
+use Rattle.ps_stack_ops.specs.Numbers.{pair_of, of_pair, integer, real}
 use Rattle.ps_stack_ops.specs.Arithmetic.{add_value, sub_value, mul_value, quotient, div_value, idiv_value, mod_value, neg_value, abs_value, ceiling_value, floor_value, round_value, truncate_value, square_root, sqrt_value, as_real, sin_value, cos_value, cvi_value, cvr_value}
 use Rattle.ps_stack_ops.specs.Comparison.{tested}
 use Rattle.ps_stack_ops.specs.Logic.{and_value, or_value, xor_value, not_value, bitshift_value}
@@ -30,8 +31,8 @@ plain_real m None = tt
 
 plain_pair : (m : ℕ) (wholes fixes : ℤ → ℤ → Option ℤ) (a b : Obj) → IsPlain m (of_pair wholes fixes (pair_of a b))
 plain_pair m wholes fixes (Int a) (Int b) = plain_integer m (wholes a b)
-plain_pair m wholes fixes (Int a) (Real b) = plain_real m (fixes (raw_of a) b)
-plain_pair m wholes fixes (Real a) (Int b) = plain_real m (fixes a (raw_of b))
+plain_pair m wholes fixes (Int a) (Real b) = plain_real m (fixes (raw_of_whole a) b)
+plain_pair m wholes fixes (Real a) (Int b) = plain_real m (fixes a (raw_of_whole b))
 plain_pair m wholes fixes (Real a) (Real b) = plain_real m (fixes a b)
 plain_pair m wholes fixes a b = tt
 
@@ -57,7 +58,7 @@ plain_quotient m a b = tt
 
 pub plain_div : (m : ℕ) (a b : Obj) → IsPlain m (div_value a b)
 unfolding div_value
-plain_div m a b = plain_quotient m (number_of a) (number_of b)
+plain_div m a b = plain_quotient m (raw_of a) (raw_of b)
 
 pub plain_idiv : (m : ℕ) (a b : Obj) → IsPlain m (idiv_value a b)
 unfolding idiv_value
@@ -111,15 +112,15 @@ plain_root m None = tt
 
 pub plain_sqrt : (m : ℕ) (a : Obj) → IsPlain m (sqrt_value a)
 unfolding sqrt_value
-plain_sqrt m a = plain_root m (number_of a)
+plain_sqrt m a = plain_root m (raw_of a)
 
 pub plain_sin : (m : ℕ) (a : Obj) → IsPlain m (sin_value a)
 unfolding sin_value
-plain_sin m a = plain_as_real m (option_map sine_of (number_of a))
+plain_sin m a = plain_as_real m (option_map sine_of (raw_of a))
 
 pub plain_cos : (m : ℕ) (a : Obj) → IsPlain m (cos_value a)
 unfolding cos_value
-plain_cos m a = plain_as_real m (option_map cosine_of (number_of a))
+plain_cos m a = plain_as_real m (option_map cosine_of (raw_of a))
 
 pub plain_cvi : (m : ℕ) (a : Obj) → IsPlain m (cvi_value a)
 unfolding cvi_value
@@ -129,7 +130,7 @@ plain_cvi m o = tt
 
 pub plain_cvr : (m : ℕ) (a : Obj) → IsPlain m (cvr_value a)
 unfolding cvr_value
-plain_cvr m a = plain_as_real m (number_of a)
+plain_cvr m a = plain_as_real m (raw_of a)
 
 pub plain_tested : (m : ℕ) (test : Ordering → Bool) (order : Result Ordering PsName) → IsPlain m (tested test order)
 plain_tested m test (Ok order) = tt

@@ -11,7 +11,8 @@ use Rattle.press_fault.specs.declared.names.PsName.{PsName}
 use Rattle.press_fault.specs.declared.names.PsName.TheVariants.{TypeCheck, RangeCheck}
 use Rattle.ps_store.specs.declared.obj.Obj.{Obj}
 use Rattle.ps_store.specs.declared.obj.Obj.TheVariants.{Int, Real}
-use Rattle.ps_stack_ops.specs.Numbers.{number_of, pair_of, of_pair, integer, real}
+use Rattle.ps_store.specs.Numbers.{raw_of}
+use Rattle.ps_stack_ops.specs.Numbers.{pair_of, of_pair, integer, real}
 
 unfoldable pub add_value : Obj → Obj → Result Obj PsName
 add_value a b = of_pair (λ x y. whole_of (x +ℤ y)) (λ x y. fix_of (x +ℤ y)) (pair_of a b)
@@ -27,7 +28,7 @@ quotient (Some a) (Some b) = real (quotient_of a b)
 quotient a b = Err TypeCheck
 
 unfoldable pub div_value : Obj → Obj → Result Obj PsName
-div_value a b = quotient (number_of a) (number_of b)
+div_value a b = quotient (raw_of a) (raw_of b)
 
 unfoldable pub idiv_value : Obj → Obj → Result Obj PsName
 idiv_value (Int a) (Int b) = integer (whole_quotient_of a b)
@@ -72,17 +73,17 @@ square_root (Some x) = if int_lt x (pos 0) then Err RangeCheck else Ok (Real (fi
 square_root None = Err TypeCheck
 
 unfoldable pub sqrt_value : Obj → Result Obj PsName
-sqrt_value o = square_root (number_of o)
+sqrt_value o = square_root (raw_of o)
 
 abbrev pub as_real : Option ℤ → Result Obj PsName
 as_real (Some x) = Ok (Real x)
 as_real None = Err TypeCheck
 
 unfoldable pub sin_value : Obj → Result Obj PsName
-sin_value o = as_real (option_map sine_of (number_of o))
+sin_value o = as_real (option_map sine_of (raw_of o))
 
 unfoldable pub cos_value : Obj → Result Obj PsName
-cos_value o = as_real (option_map cosine_of (number_of o))
+cos_value o = as_real (option_map cosine_of (raw_of o))
 
 unfoldable pub cvi_value : Obj → Result Obj PsName
 cvi_value (Int n) = Ok (Int n)
@@ -90,4 +91,4 @@ cvi_value (Real x) = Ok (Int (truncation_of x))
 cvi_value o = Err TypeCheck
 
 unfoldable pub cvr_value : Obj → Result Obj PsName
-cvr_value o = as_real (number_of o)
+cvr_value o = as_real (raw_of o)

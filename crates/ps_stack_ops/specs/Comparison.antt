@@ -16,7 +16,7 @@ use Rattle.ps_store.specs.declared.obj.Span.{Span}
 use Rattle.ps_store.specs.declared.oper.Oper.{Oper}
 use Rattle.ps_store.specs.Operators.{number_of}
 use Rattle.ps_store.specs.Store.{Kept, bytes_of}
-use Rattle.ps_stack_ops.specs.Numbers.{raw_of}
+use Rattle.ps_store.specs.Numbers.{raw_of_whole}
 
 -- the same places of the same composite
 abbrev pub same_part : Span → Span → Bool
@@ -27,8 +27,8 @@ same_operator a b = number_of a == number_of b
 
 unfoldable pub equal : Kept → Obj → Obj → Bool
 equal s (Int a) (Int b) = int_eq a b
-equal s (Int a) (Real b) = int_eq (raw_of a) b
-equal s (Real a) (Int b) = int_eq a (raw_of b)
+equal s (Int a) (Real b) = int_eq (raw_of_whole a) b
+equal s (Real a) (Int b) = int_eq a (raw_of_whole b)
 equal s (Real a) (Real b) = int_eq a b
 equal s (Name a x) (Name b y) = bytes_eq a b
 equal s (Name a x) (Text b) = bytes_eq a (bytes_of s b)
@@ -53,8 +53,8 @@ ne_value s a b = Ok (Truth (not (equal s a b)))
 unfoldable pub order_of : Kept → Obj → Obj → Result Ordering PsName
 order_of s (Text a) (Text b) = Ok (slice_cmp nat_cmp (bytes_of s a) (bytes_of s b))
 order_of s (Int a) (Int b) = Ok (int_cmp a b)
-order_of s (Int a) (Real b) = Ok (int_cmp (raw_of a) b)
-order_of s (Real a) (Int b) = Ok (int_cmp a (raw_of b))
+order_of s (Int a) (Real b) = Ok (int_cmp (raw_of_whole a) b)
+order_of s (Real a) (Int b) = Ok (int_cmp a (raw_of_whole b))
 order_of s (Real a) (Real b) = Ok (int_cmp a b)
 order_of s a b = Err TypeCheck
 

@@ -1,28 +1,19 @@
 -- Numeric operands (PostScript Language Reference, third edition, 3.3.2 Numeric Objects). A real
 -- number is given by its raw value, its count of 1/65536.
-use Rattle.std.specs.Prelude.{ℤ, pos, ◌*ℤ◌, Option, Some, None, Result, Ok, Err}
+use Rattle.std.specs.Prelude.{ℤ, Option, Some, None, Result, Ok, Err}
 use Rattle.press_fault.specs.declared.names.PsName.{PsName}
 use Rattle.press_fault.specs.declared.names.PsName.TheVariants.{TypeCheck, UndefinedResult}
 use Rattle.ps_store.specs.declared.obj.Obj.{Obj}
 use Rattle.ps_store.specs.declared.obj.Obj.TheVariants.{Int, Real}
+use Rattle.ps_store.specs.Numbers.{raw_of_whole}
 use Rattle.ps_stack_ops.specs.declared.numbers.Pair.{Pair}
 use Rattle.ps_stack_ops.specs.declared.numbers.Pair.TheVariants.{Wholes, Fixes}
-
--- the raw value of an integer
-abbrev pub raw_of : ℤ → ℤ
-raw_of n = n *ℤ pos 65536
-
--- the raw value of a number
-abbrev pub number_of : Obj → Option ℤ
-number_of (Int n) = Some (raw_of n)
-number_of (Real x) = Some x
-number_of o = None
 
 -- two numbers: two integers, or else two real numbers
 abbrev pub pair_of : Obj → Obj → Option Pair
 pair_of (Int a) (Int b) = Some (Wholes a b)
-pair_of (Int a) (Real b) = Some (Fixes (raw_of a) b)
-pair_of (Real a) (Int b) = Some (Fixes a (raw_of b))
+pair_of (Int a) (Real b) = Some (Fixes (raw_of_whole a) b)
+pair_of (Real a) (Int b) = Some (Fixes a (raw_of_whole b))
 pair_of (Real a) (Real b) = Some (Fixes a b)
 pair_of a b = None
 

@@ -1,5 +1,5 @@
 //! Arithmetic and mathematical operators (PostScript Language Reference, third edition, 8.2).
-use crate::numbers::{Pair, integer, number_in, numbers_in, real};
+use crate::numbers::{Pair, integer, numbers_in, real};
 use crate::rows::{OneOperand, TwoOperands};
 use geo_matrix::{cosine, sine};
 use press_fault::PsName;
@@ -7,7 +7,7 @@ use press_nums::{
     Wide, fix_add, fix_div, fix_mul, fix_root, fix_sub, whole_add, whole_div, whole_mul, whole_rem,
     whole_sub,
 };
-use ps_store::{Obj, Store};
+use ps_store::{Obj, Store, number};
 
 /// The sum.
 pub(crate) struct Add;
@@ -79,7 +79,7 @@ impl TwoOperands for Div {
 
     #[tactic(auto, unfolding(crate::specs::Arithmetic::div_value))]
     fn value(_store: &Store, a: &Obj, b: &Obj) -> Result<Obj, PsName> {
-        let (Some(a), Some(b)) = (number_in(a), number_in(b)) else {
+        let (Some(a), Some(b)) = (number(a), number(b)) else {
             return Err(PsName::TypeCheck);
         };
         real(fix_div(a, b))
@@ -238,7 +238,7 @@ impl OneOperand for Sqrt {
 
     #[tactic(auto, unfolding(crate::specs::Arithmetic::sqrt_value))]
     fn value(a: &Obj) -> Result<Obj, PsName> {
-        let Some(x) = number_in(a) else {
+        let Some(x) = number(a) else {
             return Err(PsName::TypeCheck);
         };
         if x.wide().is_below(Wide::ZERO) {
@@ -258,7 +258,7 @@ impl OneOperand for Sin {
 
     #[tactic(auto, unfolding(crate::specs::Arithmetic::sin_value))]
     fn value(a: &Obj) -> Result<Obj, PsName> {
-        match number_in(a) {
+        match number(a) {
             Some(angle) => Ok(Obj::Real(sine(angle))),
             None => Err(PsName::TypeCheck),
         }
@@ -275,7 +275,7 @@ impl OneOperand for Cos {
 
     #[tactic(auto, unfolding(crate::specs::Arithmetic::cos_value))]
     fn value(a: &Obj) -> Result<Obj, PsName> {
-        match number_in(a) {
+        match number(a) {
             Some(angle) => Ok(Obj::Real(cosine(angle))),
             None => Err(PsName::TypeCheck),
         }
@@ -310,7 +310,7 @@ impl OneOperand for Cvr {
 
     #[tactic(auto, unfolding(crate::specs::Arithmetic::cvr_value))]
     fn value(a: &Obj) -> Result<Obj, PsName> {
-        match number_in(a) {
+        match number(a) {
             Some(x) => Ok(Obj::Real(x)),
             None => Err(PsName::TypeCheck),
         }

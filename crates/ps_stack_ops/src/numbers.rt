@@ -1,6 +1,6 @@
 //! Numeric operands (PostScript Language Reference, third edition, 3.3.2 Numeric Objects).
 ghost use Rattle.std.specs.Prelude.{◌≡◌};
-ghost use Rattle.ps_stack_ops.specs.Numbers.{number_of, pair_of, integer, real};
+ghost use Rattle.ps_stack_ops.specs.Numbers.{pair_of, integer, real};
 
 use press_fault::PsName;
 use press_nums::{Fix, Whole};
@@ -11,17 +11,6 @@ use ps_store::Obj;
 pub(crate) enum Pair {
     Wholes(Whole, Whole),
     Fixes(Fix, Fix),
-}
-
-/// The value of a number as a real number, `None` exactly where an object is no number.
-pub(crate) fn number_in(o: &Obj) -> Option<Fix>
-    ensures { result ≡ number_of o.now }
-{
-    match o {
-        Obj::Int(n) => Some(Fix::of_whole(*n)),
-        Obj::Real(x) => Some(*x),
-        _ => None,
-    }
 }
 
 /// Two numbers, `None` exactly where one of the objects is no number.

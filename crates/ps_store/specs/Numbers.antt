@@ -11,8 +11,12 @@ byte_of z = if int_le (pos 0) z && int_le z (pos 255) then unsigned_abs z else 0
 abbrev pub place_of : ℤ → ℕ → Option ℕ
 place_of z len = if int_le (pos 0) z && nat_lt (unsigned_abs z) len then Some (unsigned_abs z) else None
 
--- the number that an object is, as a count of 1/65536
+-- the raw value of an integer, its count of 1/65536
+abbrev pub raw_of_whole : ℤ → ℤ
+raw_of_whole n = n *ℤ pos 65536
+
+-- the raw value of the number that an object is
 abbrev pub raw_of : Obj → Option ℤ
-raw_of (Int n) = Some (n *ℤ pos 65536)
+raw_of (Int n) = Some (raw_of_whole n)
 raw_of (Real raw) = Some raw
 raw_of o = None

@@ -107,10 +107,37 @@ flow_number_of OnFlow.Stopped = 79
 flow_number_of OnFlow.Bind = 81
 
 abbrev pub gfx_number_of : GfxOp → ℕ
+gfx_number_of OnGfx.Gsave = 85
+gfx_number_of OnGfx.Grestore = 86
+gfx_number_of OnGfx.Grestoreall = 87
+gfx_number_of OnGfx.Initgraphics = 88
 gfx_number_of OnGfx.Currentgray = 95
 gfx_number_of OnGfx.Setgray = 96
 gfx_number_of OnGfx.Setrgbcolor = 97
 gfx_number_of OnGfx.Setcmykcolor = 98
+gfx_number_of OnGfx.Matrix = 101
+gfx_number_of OnGfx.Currentmatrix = 102
+gfx_number_of OnGfx.Setmatrix = 103
+gfx_number_of OnGfx.Concat = 104
+gfx_number_of OnGfx.Initmatrix = 105
+gfx_number_of OnGfx.Translate = 106
+gfx_number_of OnGfx.Scale = 107
+gfx_number_of OnGfx.Rotate = 108
+gfx_number_of OnGfx.Transform = 109
+gfx_number_of OnGfx.Itransform = 110
+gfx_number_of OnGfx.Newpath = 111
+gfx_number_of OnGfx.Closepath = 112
+gfx_number_of OnGfx.Moveto = 114
+gfx_number_of OnGfx.Lineto = 115
+gfx_number_of OnGfx.Rmoveto = 116
+gfx_number_of OnGfx.Rlineto = 117
+gfx_number_of OnGfx.Curveto = 118
+gfx_number_of OnGfx.Rcurveto = 119
+gfx_number_of OnGfx.Arc = 120
+gfx_number_of OnGfx.Arcn = 121
+gfx_number_of OnGfx.Currentpoint = 122
+gfx_number_of OnGfx.Fill = 123
+gfx_number_of OnGfx.Eofill = 124
 gfx_number_of OnGfx.Rectfill = 128
 gfx_number_of OnGfx.Erasepage = 135
 
@@ -217,10 +244,37 @@ flow_name_of OnFlow.Stopped = codes "stopped"
 flow_name_of OnFlow.Bind = codes "bind"
 
 abbrev pub gfx_name_of : GfxOp → List ℕ
+gfx_name_of OnGfx.Gsave = codes "gsave"
+gfx_name_of OnGfx.Grestore = codes "grestore"
+gfx_name_of OnGfx.Grestoreall = codes "grestoreall"
+gfx_name_of OnGfx.Initgraphics = codes "initgraphics"
 gfx_name_of OnGfx.Currentgray = codes "currentgray"
 gfx_name_of OnGfx.Setgray = codes "setgray"
 gfx_name_of OnGfx.Setrgbcolor = codes "setrgbcolor"
 gfx_name_of OnGfx.Setcmykcolor = codes "setcmykcolor"
+gfx_name_of OnGfx.Matrix = codes "matrix"
+gfx_name_of OnGfx.Currentmatrix = codes "currentmatrix"
+gfx_name_of OnGfx.Setmatrix = codes "setmatrix"
+gfx_name_of OnGfx.Concat = codes "concat"
+gfx_name_of OnGfx.Initmatrix = codes "initmatrix"
+gfx_name_of OnGfx.Translate = codes "translate"
+gfx_name_of OnGfx.Scale = codes "scale"
+gfx_name_of OnGfx.Rotate = codes "rotate"
+gfx_name_of OnGfx.Transform = codes "transform"
+gfx_name_of OnGfx.Itransform = codes "itransform"
+gfx_name_of OnGfx.Newpath = codes "newpath"
+gfx_name_of OnGfx.Closepath = codes "closepath"
+gfx_name_of OnGfx.Moveto = codes "moveto"
+gfx_name_of OnGfx.Lineto = codes "lineto"
+gfx_name_of OnGfx.Rmoveto = codes "rmoveto"
+gfx_name_of OnGfx.Rlineto = codes "rlineto"
+gfx_name_of OnGfx.Curveto = codes "curveto"
+gfx_name_of OnGfx.Rcurveto = codes "rcurveto"
+gfx_name_of OnGfx.Arc = codes "arc"
+gfx_name_of OnGfx.Arcn = codes "arcn"
+gfx_name_of OnGfx.Currentpoint = codes "currentpoint"
+gfx_name_of OnGfx.Fill = codes "fill"
+gfx_name_of OnGfx.Eofill = codes "eofill"
 gfx_name_of OnGfx.Rectfill = codes "rectfill"
 gfx_name_of OnGfx.Erasepage = codes "erasepage"
 
@@ -259,9 +313,16 @@ operators_built = Stack OnStack.Pop ∷ Stack OnStack.Exch ∷ Stack OnStack.Dup
     Flow OnFlow.If ∷ Flow OnFlow.Ifelse ∷ Flow OnFlow.For ∷ Flow OnFlow.Repeat ∷
     Flow OnFlow.Loop ∷ Flow OnFlow.Forall ∷ Flow OnFlow.Exit ∷ Flow OnFlow.Stop ∷
     Flow OnFlow.Stopped ∷ Page OnPage.Quit ∷ Flow OnFlow.Bind ∷ Data OnData.Currentfile ∷
-    Data OnData.Readstring ∷ Data OnData.Readhexstring ∷ Gfx OnGfx.Currentgray ∷
-    Gfx OnGfx.Setgray ∷ Gfx OnGfx.Setrgbcolor ∷ Gfx OnGfx.Setcmykcolor ∷
-    Gfx OnGfx.Rectfill ∷ Page OnPage.Showpage ∷ Gfx OnGfx.Erasepage ∷ []
+    Data OnData.Readstring ∷ Data OnData.Readhexstring ∷
+    Gfx OnGfx.Gsave ∷ Gfx OnGfx.Grestore ∷ Gfx OnGfx.Grestoreall ∷ Gfx OnGfx.Initgraphics ∷
+    Gfx OnGfx.Currentgray ∷ Gfx OnGfx.Setgray ∷ Gfx OnGfx.Setrgbcolor ∷ Gfx OnGfx.Setcmykcolor ∷
+    Gfx OnGfx.Matrix ∷ Gfx OnGfx.Currentmatrix ∷ Gfx OnGfx.Setmatrix ∷ Gfx OnGfx.Concat ∷
+    Gfx OnGfx.Initmatrix ∷ Gfx OnGfx.Translate ∷ Gfx OnGfx.Scale ∷ Gfx OnGfx.Rotate ∷
+    Gfx OnGfx.Transform ∷ Gfx OnGfx.Itransform ∷ Gfx OnGfx.Newpath ∷ Gfx OnGfx.Closepath ∷
+    Gfx OnGfx.Moveto ∷ Gfx OnGfx.Lineto ∷ Gfx OnGfx.Rmoveto ∷ Gfx OnGfx.Rlineto ∷
+    Gfx OnGfx.Curveto ∷ Gfx OnGfx.Rcurveto ∷ Gfx OnGfx.Arc ∷ Gfx OnGfx.Arcn ∷
+    Gfx OnGfx.Currentpoint ∷ Gfx OnGfx.Fill ∷ Gfx OnGfx.Eofill ∷ Gfx OnGfx.Rectfill ∷
+    Page OnPage.Showpage ∷ Gfx OnGfx.Erasepage ∷ []
 
 -- whether each number is below the next
 abbrev pub is_rising : List ℕ → Bool

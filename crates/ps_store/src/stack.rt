@@ -124,6 +124,43 @@ impl Stack {
         }
     }
 
+    /// The top operand, and the four below it.
+    pub fn top_five(&self) -> Option<(&Obj, &Obj, &Obj, &Obj, &Obj)>
+        ensures { MatchOption result (length self.now < 5) (λ r. self.now ≡ r.0.now ∷ r.1.now ∷ r.2.now ∷ r.3.now ∷ r.4.now ∷ drop 5 self.now) }
+    {
+        let len = self.items.len();
+        if len < 5 {
+            None
+        } else {
+            Some((
+                &self.items[len - 1],
+                &self.items[len - 2],
+                &self.items[len - 3],
+                &self.items[len - 4],
+                &self.items[len - 5],
+            ))
+        }
+    }
+
+    /// The top operand, and the five below it.
+    pub fn top_six(&self) -> Option<(&Obj, &Obj, &Obj, &Obj, &Obj, &Obj)>
+        ensures { MatchOption result (length self.now < 6) (λ r. self.now ≡ r.0.now ∷ r.1.now ∷ r.2.now ∷ r.3.now ∷ r.4.now ∷ r.5.now ∷ drop 6 self.now) }
+    {
+        let len = self.items.len();
+        if len < 6 {
+            None
+        } else {
+            Some((
+                &self.items[len - 1],
+                &self.items[len - 2],
+                &self.items[len - 3],
+                &self.items[len - 4],
+                &self.items[len - 5],
+                &self.items[len - 6],
+            ))
+        }
+    }
+
     /// The operand below so many others, `None` exactly where there are no more than these.
     pub fn at(&self, depth: usize) -> Option<&Obj>
         ensures { option_copied result ≡ slice_get self.now depth }
@@ -219,7 +256,7 @@ impl Stack {
     {
         let from = self.items.len() - n;
         let (_, part) = self.items.as_mut_slice().split_at_mut(from);
-        rotate(part, n - j);
+        part.rotate_left(n - j);
     }
 }
 
@@ -243,15 +280,4 @@ fn repeat_from(items: &mut ArrayVec<Obj, MAX_OPERANDS>, from: usize)
         let o = items[at];
         items.push(o);
     }
-}
-
-/// Puts the first elements behind the others, each moved twice.
-fn rotate(part: &mut [Obj], first: usize)
-    requires { first ≤ length part.old }
-    ensures { part.new ≡ drop first part.old ++ take first part.old }
-{
-    let (front, back) = part.split_at_mut(first);
-    front.reverse();
-    back.reverse();
-    part.reverse();
 }
