@@ -11,7 +11,7 @@ use Rattle.ps_store.specs.declared.fault.OpFault.TheVariants.{Ps, NoMemory}
 use Rattle.ps_store.specs.declared.obj.Obj.{Obj}
 use Rattle.ps_store.specs.declared.obj.Obj.TheVariants.{Int, Text, Array, Dict}
 use Rattle.ps_store.specs.declared.obj.Span.{Span}
-use Rattle.ps_store.specs.Outcome.{Outcome, Goes, Refuses}
+use Rattle.ps_store.specs.Outcome.{Outcome, Goes, Refuses, or_range, or_limit}
 use Rattle.ps_store.specs.Desk.{Desk}
 use Rattle.ps_store.specs.Stack.{is_mark}
 use Rattle.ps_store.specs.Store.{Kept, with_text, with_array, with_dict}
@@ -21,14 +21,6 @@ use Rattle.ps_store.specs.Copying.{copied_part}
 -- the count that an integer is, where it is not negative
 abbrev pub count_of : ℤ → Option ℕ
 count_of n = if int_le (pos 0) n then Some (unsigned_abs n) else None
-
-abbrev pub or_range : {A S : Type 0} → Option A → (A → Outcome S) → Outcome S
-or_range (Some a) go = go a
-or_range None go = Refuses RangeCheck
-
-abbrev pub or_limit : {A S : Type 0} → Option A → (A → Outcome S) → Outcome S
-or_limit (Some a) go = go a
-or_limit None go = Refuses LimitCheck
 
 -- what a store that could not grow is to an operator
 abbrev pub refusal_of : Grow → OpFault

@@ -13,7 +13,7 @@ use Rattle.ps_store.specs.declared.key.KeyFault.TheVariants.{NotAKey, TooLong}
 use Rattle.ps_store.specs.declared.obj.Obj.{Obj}
 use Rattle.ps_store.specs.declared.obj.Obj.TheVariants.{Bool as Boolean, Int, Name, Text, Array, Dict}
 use Rattle.ps_store.specs.Numbers.{place_of}
-use Rattle.ps_store.specs.Outcome.{Outcome, Goes, Refuses}
+use Rattle.ps_store.specs.Outcome.{Outcome, Goes, Refuses, or_range, or_limit}
 use Rattle.ps_store.specs.Desk.{Desk}
 use Rattle.ps_store.specs.Stack.{is_mark}
 use Rattle.ps_store.specs.Store.{Kept, element, put_at, entries_of, found, defined}
@@ -21,7 +21,7 @@ use Rattle.ps_store.specs.Gathering.{with_dict_of}
 use Rattle.ps_store.specs.Keys.{same_key}
 use Rattle.ps_store.specs.KeyOf.{key_of}
 use Rattle.ps_store.specs.Dicts.{find_key, home_of}
-use Rattle.ps_data_ops.specs.Composites.{or_range, or_limit, or_unmatched}
+use Rattle.ps_data_ops.specs.Composites.{or_unmatched}
 
 -- `length`: of a name the number of its bytes, of a dictionary that of its entries
 abbrev pub length_row : List Obj → Kept → Outcome (List Obj)

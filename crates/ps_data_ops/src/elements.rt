@@ -1,10 +1,9 @@
 //! `length`, `get` and `put`.
 ghost use Rattle.std.specs.Prelude.{◌≡◌, ◌≤◌, ◌∷◌, length as list_length, drop};
 ghost use Rattle.std.specs.Option.{option_copied};
-ghost use Rattle.ps_store.specs.Outcome.{Answers, Goes};
+ghost use Rattle.ps_store.specs.Outcome.{Answers, Goes, or_range};
 ghost use Rattle.ps_store.specs.Numbers.{place_of};
 ghost use Rattle.ps_store.specs.Store.{element};
-ghost use Rattle.ps_data_ops.specs.Composites.{or_range};
 ghost use Rattle.ps_data_ops.specs.Dictionaries.{length_row, got, get_row, put_row};
 
 use crate::dictionaries::define;

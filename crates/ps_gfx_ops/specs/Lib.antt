@@ -1,4 +1,9 @@
 pub mod Easel
+pub mod Scene
+pub mod Points
+pub mod States
 pub mod Colours
+pub mod Matrices
+pub mod Paths
 pub mod Rectangles
 pub mod Rows

@@ -1,18 +1,56 @@
--- The rows of the graphics operators: what each does to the operands, the graphics state and the page.
-use Rattle.std.specs.Prelude.{List}
+-- The rows of the graphics operators: what each does to the operands, the store, the graphics state and the page.
+use Rattle.std.specs.Prelude.{List, true, false}
+use Rattle.page_model.specs.declared.shape.Rule.TheVariants.{Nonzero, EvenOdd}
 use Rattle.ps_store.specs.declared.obj.Obj.{Obj}
 use Rattle.ps_store.specs.declared.oper.GfxOp.{GfxOp}
-use Rattle.ps_store.specs.declared.oper.GfxOp.TheVariants.{Currentgray, Setgray, Setrgbcolor, Setcmykcolor, Rectfill, Erasepage}
-use Rattle.ps_store.specs.Outcome.{Outcome, Goes, Refuses}
-use Rattle.gfx_state.specs.Graphics.{Graphics, erased}
+use Rattle.ps_store.specs.declared.oper.GfxOp.TheVariants as OnGfx
+use Rattle.ps_store.specs.Outcome.{Outcome, Goes}
+use Rattle.ps_store.specs.Store.{Kept}
+use Rattle.geo_path.specs.Path.{closed}
+use Rattle.gfx_state.specs.Graphics.{Graphics, erased, restored, all_restored, with_initial, with_default_matrix, with_path, no_path}
 use Rattle.ps_gfx_ops.specs.Easel.{Easel}
+use Rattle.ps_gfx_ops.specs.Scene.{Scene, beside}
+use Rattle.ps_gfx_ops.specs.States.{gsave_row}
 use Rattle.ps_gfx_ops.specs.Colours.{currentgray_row, setgray_row, setrgbcolor_row, setcmykcolor_row}
+use Rattle.ps_gfx_ops.specs.Matrices.{matrix_row, currentmatrix_row, setmatrix_row, concat_row, translate_row, scale_row, rotate_row, transform_row, itransform_row}
+use Rattle.ps_gfx_ops.specs.Paths.{moveto_row, lineto_row, rmoveto_row, rlineto_row, curveto_row, rcurveto_row, arc_row, currentpoint_row, fill_row}
 use Rattle.ps_gfx_ops.specs.Rectangles.{rectfill_row}
 
-unfoldable pub gfx_row : GfxOp → List Obj → Graphics → Outcome Easel
-gfx_row Currentgray operands g = currentgray_row operands g
-gfx_row Setgray operands g = setgray_row operands g
-gfx_row Setrgbcolor operands g = setrgbcolor_row operands g
-gfx_row Setcmykcolor operands g = setcmykcolor_row operands g
-gfx_row Rectfill operands g = rectfill_row operands g
-gfx_row Erasepage operands g = Goes (record { operands = operands; graphics = erased g })
+-- an operator without operands that is never refused
+abbrev pub becomes : Graphics → List Obj → Kept → Outcome Scene
+becomes g operands s = Goes (record { operands = operands; store = s; graphics = g })
+
+unfoldable pub gfx_row : GfxOp → List Obj → Kept → Graphics → Outcome Scene
+gfx_row OnGfx.Gsave operands s g = beside s (gsave_row operands g)
+gfx_row OnGfx.Grestore operands s g = becomes (restored g) operands s
+gfx_row OnGfx.Grestoreall operands s g = becomes (all_restored g) operands s
+gfx_row OnGfx.Initgraphics operands s g = becomes (with_initial g) operands s
+gfx_row OnGfx.Currentgray operands s g = beside s (currentgray_row operands g)
+gfx_row OnGfx.Setgray operands s g = beside s (setgray_row operands g)
+gfx_row OnGfx.Setrgbcolor operands s g = beside s (setrgbcolor_row operands g)
+gfx_row OnGfx.Setcmykcolor operands s g = beside s (setcmykcolor_row operands g)
+gfx_row OnGfx.Matrix operands s g = matrix_row operands s g
+gfx_row OnGfx.Currentmatrix operands s g = currentmatrix_row operands s g
+gfx_row OnGfx.Setmatrix operands s g = beside s (setmatrix_row operands s g)
+gfx_row OnGfx.Concat operands s g = beside s (concat_row operands s g)
+gfx_row OnGfx.Initmatrix operands s g = becomes (with_default_matrix g) operands s
+gfx_row OnGfx.Translate operands s g = beside s (translate_row operands g)
+gfx_row OnGfx.Scale operands s g = beside s (scale_row operands g)
+gfx_row OnGfx.Rotate operands s g = beside s (rotate_row operands g)
+gfx_row OnGfx.Transform operands s g = beside s (transform_row operands g)
+gfx_row OnGfx.Itransform operands s g = beside s (itransform_row operands g)
+gfx_row OnGfx.Newpath operands s g = becomes (with_path g no_path) operands s
+gfx_row OnGfx.Closepath operands s g = becomes (with_path g (closed g.state.path)) operands s
+gfx_row OnGfx.Moveto operands s g = beside s (moveto_row operands g)
+gfx_row OnGfx.Lineto operands s g = beside s (lineto_row operands g)
+gfx_row OnGfx.Rmoveto operands s g = beside s (rmoveto_row operands g)
+gfx_row OnGfx.Rlineto operands s g = beside s (rlineto_row operands g)
+gfx_row OnGfx.Curveto operands s g = beside s (curveto_row operands g)
+gfx_row OnGfx.Rcurveto operands s g = beside s (rcurveto_row operands g)
+gfx_row OnGfx.Arc operands s g = beside s (arc_row false operands g)
+gfx_row OnGfx.Arcn operands s g = beside s (arc_row true operands g)
+gfx_row OnGfx.Currentpoint operands s g = beside s (currentpoint_row operands g)
+gfx_row OnGfx.Fill operands s g = beside s (fill_row Nonzero operands g)
+gfx_row OnGfx.Eofill operands s g = beside s (fill_row EvenOdd operands g)
+gfx_row OnGfx.Rectfill operands s g = beside s (rectfill_row operands g)
+gfx_row OnGfx.Erasepage operands s g = becomes (erased g) operands s

@@ -5,7 +5,11 @@
 #![tactic(auto)]
 
 mod colours;
+mod matrices;
+mod paths;
+mod points;
 mod rectangles;
 mod rows;
+mod states;
 
 pub use rows::run_gfx;

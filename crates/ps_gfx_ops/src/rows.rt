@@ -4,22 +4,77 @@ ghost use Rattle.ps_store.specs.Outcome.{Answers};
 ghost use Rattle.ps_gfx_ops.specs.Rows.{gfx_row};
 
 use crate::colours::{currentgray, setcmykcolor, setgray, setrgbcolor};
+use crate::matrices::{
+    concat, currentmatrix, itransform, matrix, rotate, scale, setmatrix, transform, translate,
+};
+use crate::paths::{
+    arc, closepath, currentpoint, curveto, fill, lineto, moveto, rcurveto, rlineto, rmoveto,
+};
 use crate::rectangles::rectfill;
+use crate::states::{grestoreall, gsave};
 use gfx_state::Gfx;
-use ps_store::{GfxOp, OpFault, Stack};
+use page_model::Rule;
+use ps_store::{GfxOp, OpFault, Stack, Store};
 use std::alloc::Global;
 
-/// Does what a graphics operator does, exactly as its row says. After a refusal operands and graphics
-/// are as before; after out of memory they are only good to be dropped.
-#[tactic(auto, unfolding(crate::specs::Rows::gfx_row))]
-pub fn run_gfx(alloc: Global, op: GfxOp, stack: &mut Stack, gfx: &mut Gfx) -> Result<(), OpFault>
-    ensures { Answers (gfx_row op stack.old gfx.old) result (record { operands = stack.old; graphics = gfx.old }) (record { operands = stack.new; graphics = gfx.new }) }
+/// Does what a graphics operator does, exactly as its row says. After a refusal operands, store and
+/// graphics are as before; after out of memory they are only good to be dropped.
+#[tactic(auto, using(crate::proofs::Beside::besides), unfolding(crate::specs::Rows::gfx_row))]
+pub fn run_gfx(
+    alloc: Global,
+    op: GfxOp,
+    stack: &mut Stack,
+    store: &mut Store,
+    gfx: &mut Gfx,
+) -> Result<(), OpFault>
+    ensures { Answers (gfx_row op stack.old store.old gfx.old) result
+        (record { operands = stack.old; store = store.old; graphics = gfx.old })
+        (record { operands = stack.new; store = store.new; graphics = gfx.new }) }
 {
     match op {
+        GfxOp::Gsave => gsave(stack, gfx),
+        GfxOp::Grestore => {
+            gfx.restore();
+            Ok(())
+        }
+        GfxOp::Grestoreall => grestoreall(gfx),
+        GfxOp::Initgraphics => {
+            gfx.initial();
+            Ok(())
+        }
         GfxOp::Currentgray => currentgray(stack, gfx),
         GfxOp::Setgray => setgray(stack, gfx),
         GfxOp::Setrgbcolor => setrgbcolor(stack, gfx),
         GfxOp::Setcmykcolor => setcmykcolor(stack, gfx),
+        GfxOp::Matrix => matrix(stack, store),
+        GfxOp::Currentmatrix => currentmatrix(stack, store, gfx),
+        GfxOp::Setmatrix => setmatrix(stack, store, gfx),
+        GfxOp::Concat => concat(stack, store, gfx),
+        GfxOp::Initmatrix => {
+            gfx.initial_matrix();
+            Ok(())
+        }
+        GfxOp::Translate => translate(stack, gfx),
+        GfxOp::Scale => scale(stack, gfx),
+        GfxOp::Rotate => rotate(stack, gfx),
+        GfxOp::Transform => transform(stack, gfx),
+        GfxOp::Itransform => itransform(stack, gfx),
+        GfxOp::Newpath => {
+            gfx.new_path();
+            Ok(())
+        }
+        GfxOp::Closepath => closepath(gfx),
+        GfxOp::Moveto => moveto(stack, gfx),
+        GfxOp::Lineto => lineto(stack, gfx),
+        GfxOp::Rmoveto => rmoveto(stack, gfx),
+        GfxOp::Rlineto => rlineto(stack, gfx),
+        GfxOp::Curveto => curveto(stack, gfx),
+        GfxOp::Rcurveto => rcurveto(stack, gfx),
+        GfxOp::Arc => arc(stack, gfx, false),
+        GfxOp::Arcn => arc(stack, gfx, true),
+        GfxOp::Currentpoint => currentpoint(stack, gfx),
+        GfxOp::Fill => fill(stack, gfx, Rule::Nonzero),
+        GfxOp::Eofill => fill(stack, gfx, Rule::EvenOdd),
         GfxOp::Rectfill => rectfill(alloc, stack, gfx),
         GfxOp::Erasepage => {
             gfx.erase();

@@ -24,9 +24,9 @@ use Rattle.ps_store.specs.Numbers.{place_of}
 use Rattle.ps_store.specs.KeyOf.{key_of}
 use Rattle.ps_store.specs.Desk.{Desk}
 use Rattle.ps_store.specs.Stack.{is_mark}
-use Rattle.ps_store.specs.Outcome.{Outcome, Goes, Refuses}
+use Rattle.ps_store.specs.Outcome.{Outcome, Goes, Refuses, or_range, or_limit}
 use Rattle.ps_data_ops.specs.Values.{changed, executable, literal, mark_of, type_name, cvn_row}
-use Rattle.ps_data_ops.specs.Composites.{count_of, or_range, or_limit, or_unmatched, array_row, string_row, dict_row, close_array_row, begin_of, interval_of, getinterval_row, putinterval_row, aload_row, astore_row}
+use Rattle.ps_data_ops.specs.Composites.{count_of, or_unmatched, array_row, string_row, dict_row, close_array_row, begin_of, interval_of, getinterval_row, putinterval_row, aload_row, astore_row}
 use Rattle.ps_data_ops.specs.Dictionaries.{Scope, length_row, got, value_row, get_row, define_row, put_row, is_odd, lacks_key, entered, closed_row, close_dict_row, begin_row, end_row, def_row, load_row, known_as, known_row, home_row, where_as, where_row, current}
 use Rattle.ps_data_ops.specs.Reading.{Reader, read_row, readstring_row, readhexstring_row}
 use Rattle.ps_data_ops.specs.Rows.{Work, within, with_operands, with_desk, with_scope, with_dicts, with_reader, data_row}

@@ -1,0 +1,20 @@
+-- What graphics operators work on where they also read or make composites.
+use Rattle.std.specs.Prelude.{List}
+use Rattle.ps_store.specs.declared.obj.Obj.{Obj}
+use Rattle.ps_store.specs.Outcome.{Outcome, Goes, Refuses}
+use Rattle.ps_store.specs.Store.{Kept}
+use Rattle.gfx_state.specs.Graphics.{Graphics}
+use Rattle.ps_gfx_ops.specs.Easel.{Easel}
+
+pub record Scene : Type 0 where
+  -- the operands, the top first
+  pub operands : List Obj
+  -- the strings, arrays and dictionaries that were made
+  pub store : Kept
+  -- the graphics state, its saved copies and the marks of the page
+  pub graphics : Graphics
+
+-- the row of an operator that leaves the store as it is
+abbrev pub beside : Kept → Outcome Easel → Outcome Scene
+beside s (Goes easel) = Goes (record { operands = easel.operands; store = s; graphics = easel.graphics })
+beside s (Refuses name) = Refuses name
