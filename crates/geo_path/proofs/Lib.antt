@@ -4,3 +4,4 @@ pub mod FlatLemmas
 pub mod AngleLemmas
 pub mod PointLemmas
 pub mod EndLemmas
+pub mod LengthLemmas

@@ -1,6 +1,6 @@
 -- Flattened paths (PostScript Language Reference, third edition, 8.2 `flattenpath`).
-use Rattle.std.specs.Prelude.{Bool, List, [], ◌∷◌, ◌++◌, map}
-use Rattle.std.specs.List.{All}
+use Rattle.std.specs.Prelude.{ℕ, Bool, List, [], ◌∷◌, ◌++◌, length, map}
+use Rattle.std.specs.List.{All, sum_by}
 use Rattle.press_fault.specs.Plane.{Spot}
 use Rattle.geo_matrix.specs.Affine.{IsNear}
 use Rattle.geo_path.specs.declared.segment.Segment.{Segment}
@@ -34,6 +34,10 @@ flat s = record { points = s.start ∷ added_from s.start s.segments; closed = s
 -- a path, flattened
 abbrev pub lines_of : PathValue → List LineValue
 lines_of path = map flat (subpaths_of path)
+
+-- how many points lines have
+abbrev pub points_in : List LineValue → ℕ
+points_in lines = sum_by (λ line. length line.points) lines
 
 -- the rings of a polygon of these lines: each is closed, as `fill` takes it
 abbrev pub rings_of : List LineValue → List (List Spot)

@@ -1,5 +1,5 @@
 //! Points of a curve.
-ghost use Rattle.std.specs.Prelude.{◌≡◌, ◌≤◌, ◌<◌, ◌^◌, ◌*◌, ◌+◌, ◌-◌, ◌++◌, ℤ, pos, unsigned_abs, ◌+ℤ◌, ◌-ℤ◌, ◌*ℤ◌, OnOk, OnErr};
+ghost use Rattle.std.specs.Prelude.{◌≡◌, length, ◌≤◌, ◌<◌, ◌^◌, ◌*◌, ◌+◌, ◌-◌, ◌++◌, ℤ, pos, unsigned_abs, ◌+ℤ◌, ◌-ℤ◌, ◌*ℤ◌, OnOk, OnErr};
 ghost use Rattle.geo_matrix.specs.Affine.{IsNear};
 ghost use Rattle.geo_path.specs.Curve.{apart, control_length, pieces_of, cubic, curve_at, curve_spot, curve_points};
 
@@ -30,6 +30,15 @@ pub(crate) fn push_curve(ring: &mut Ring, c: &Curve) -> Mem<()>
         ring.push(point_of(c, n, i + 1))?;
     }
     Ok(())
+}
+
+/// How many points those are, from 8 to 64.
+#[tactic(auto, unfolding(crate::specs::Curve::curve_points), using(crate::proofs::LengthLemmas::curve_length))]
+pub(crate) fn curve_len(c: &Curve) -> u64
+    ensures value { result ≡ length (curve_points c.now.p0 c.now.p1 c.now.p2 c.now.p3) }
+    ensures bound { result ≤ 64 }
+{
+    u64::from(pieces(c))
 }
 
 /// How many pieces stand for the curve.

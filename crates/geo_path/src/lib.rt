@@ -10,6 +10,7 @@ mod checks;
 mod curve;
 mod flat;
 mod laws;
+mod length;
 mod parts;
 mod path;
 mod segment;

@@ -57,16 +57,16 @@ fn drawn(alloc: Global, letters: &str) -> Result<Path, PathFault> {
 }
 
 /// The points of all chains of lines.
-fn points_in(lines: &Lines) -> usize {
-    let mut points: usize = 0;
+fn points_in(lines: &Lines) -> u64 {
+    let mut points: u64 = 0;
     for line in lines.items() {
-        points = points.wrapping_add(line.points.items().len());
+        points = points.wrapping_add(line.points.items().len() as u64);
     }
     points
 }
 
 /// How many chains of lines there are, how many are closed, and their points.
-fn counts(lines: &Lines) -> (usize, usize, usize) {
+fn counts(lines: &Lines) -> (usize, usize, u64) {
     let closed = lines.items().iter().filter(|line| line.closed).count();
     (lines.items().len(), closed, points_in(lines))
 }
@@ -99,6 +99,7 @@ fn subpaths_start_go_on_and_close(rt: HostRuntime) -> Result<(), Fail> {
     for (name, letters, lines, count, x) in cases {
         let path = drawn(rt.alloc(), letters)?;
         assert_eq!(rt; counts(&path.flatten()?), lines, "{name}");
+        assert_eq!(rt; path.flat_count(), lines.2, "{name}");
         assert_eq!(rt; path.count(), count, "{name}");
         assert_eq!(rt; current_x(&path), x, "{name}");
     }
@@ -106,11 +107,11 @@ fn subpaths_start_go_on_and_close(rt: HostRuntime) -> Result<(), Fail> {
 }
 
 /// The point at a place of the first chain of lines, and (-1, -1) where there is none.
-fn point_at(lines: &Lines, place: usize) -> (i64, i64) {
+fn point_at(lines: &Lines, place: u64) -> (i64, i64) {
     let Some(first) = lines.items().first() else {
         return (-1, -1);
     };
-    match first.points.items().get(place) {
+    match first.points.items().get(place as usize) {
         Some(p) => (p.x, p.y),
         None => (-1, -1),
     }

@@ -179,6 +179,10 @@ fn a_page_has_room_for_so_many_points(rt: HostRuntime) -> Result<(), Fail> {
         assert_eq!(rt; gfx.line_to(dot(0, 0)), Err(PathFault::LimitCheck));
         assert_eq!(rt; gfx.mark_fill(Rule::Nonzero), Ok(()));
     }
+    assert_eq!(rt; draw_most(&mut gfx), Ok(()));
+    assert_eq!(rt; gfx.mark_fill(Rule::Nonzero), Err(Grow::LimitCheck));
+    assert_eq!(rt; gfx.path().count(), 65536, "the fourth path stays");
+    gfx.new_path();
     for _ in 0..62 {
         assert_eq!(rt; gfx.move_to(dot(0, 0)), Ok(()));
     }

@@ -1,16 +1,14 @@
 //! The graphics state with its saved copies, and the page that is painted.
-ghost use Rattle.std.specs.Prelude.{◌≡◌, ◌≤◌, ◌↔◌, ℕ, length, Some, None, Err, OnOk, OnErr, IfOk, IsErrOf, []};
-ghost use Rattle.std.specs.Arc.{arc_value};
-ghost use Rattle.gfx_state.specs.Graphics.{opening, default_matrix, resized, saved_state, restored, with_initial, all_restored, erased, with_space, with_colour, painted, filled, initial_state, mark_of, page_of};
+ghost use Rattle.std.specs.Prelude.{◌≡◌, ◌≤◌, ◌↔◌, ℕ, length, Some, None, OnOk, OnErr, IfOk, IsErrOf};
+ghost use Rattle.gfx_state.specs.Graphics.{opening, default_matrix, resized, saved_state, restored, with_initial, all_restored, erased, with_space, with_colour, initial_state, page_of};
 ghost use Rattle.gfx_state.specs.Keeping.{IsPageSize};
 ghost use Rattle.gfx_state.specs.Colour.{channels_of, gray_of};
 
 use crate::colour::{Space, codes, gray};
 use crate::held::HeldPath;
-use crate::points::points_up_to;
 use crate::state::{SAVED, Saved, State};
 use geo_matrix::Matrix;
-use page_model::{Clip, Ink, Mark, Marks, Page, Paint, Rings, Rule, Shape, Shapes};
+use page_model::{Clip, Marks, Page};
 use press_fault::{Code, Grow, Mem};
 use press_nums::{Fix, Wide, fix_small};
 use std::alloc::Global;
@@ -25,11 +23,11 @@ pub struct Gfx {
     width: u32,
     pub(crate) height: u32,
     pub(crate) res: u32,
-    no_clip: Arc<Clip>,
+    pub(crate) no_clip: Arc<Clip>,
     pub(crate) state: State,
     saved: Saved,
-    marks: Marks,
-    points: u64,
+    pub(crate) marks: Marks,
+    pub(crate) points: u64,
 }
 
 impl Model for Gfx {
@@ -161,40 +159,6 @@ impl Gfx {
         Ok(())
     }
 
-    /// Adds a mark of rings in the current colour, refused exactly where the page has no room for it.
-    pub fn mark_rings(&mut self, rule: Rule, rings: Rings) -> Result<(), Grow>
-        ensures ok { OnOk result (painted self.old rule rings ≡ Some self.new) }
-        ensures limit { IsErrOf result Grow.LimitCheck ↔ (painted self.old rule rings ≡ None) }
-        ensures err { OnErr result (self.new ≡ self.old) }
-    {
-        if self.marks.items().len() >= 1_000_000 {
-            return Err(Grow::LimitCheck);
-        }
-        let Some(more) = points_up_to(&rings, 4_194_304 - self.points) else {
-            return Err(Grow::LimitCheck);
-        };
-        let mark = flat_mark(self.alloc, rule, rings, &self.state, &self.no_clip)?;
-        self.marks.push(mark)?;
-        self.points += more;
-        Ok(())
-    }
-
-    /// Fills the path and empties it, refused exactly where the page has no room for the mark.
-    ///
-    /// One mark of one polygon of all subpaths, the curves cut into pieces; none without a point.
-    pub fn mark_fill(&mut self, rule: Rule) -> Result<(), Grow>
-        ensures ok { OnOk result (filled self.old rule ≡ Some self.new) }
-        ensures limit { result ≡ Err Grow.LimitCheck → filled self.old rule ≡ None }
-        ensures err { OnErr result (self.new ≡ self.old) }
-    {
-        if self.path().count() > 0 {
-            let rings = self.path().flatten()?.into_rings(self.alloc)?;
-            self.mark_rings(rule, rings)?;
-        }
-        self.new_path();
-        Ok(())
-    }
-
     /// The page that was painted. The marks go with it.
     pub fn take_page(&mut self) -> Page
         ensures page { result ≡ page_of self.old }
@@ -242,25 +206,4 @@ pub(crate) fn default_matrix(height: u32, res: u32) -> Matrix
         tx: Fix::of_int(0),
         ty: fix_small(Wide::of(i64::from(height) * 65536)),
     }
-}
-
-/// A mark of rings in a state's colour, cut by its clip.
-fn flat_mark(
-    alloc: Global,
-    rule: Rule,
-    rings: Rings,
-    state: &State,
-    no_clip: &Arc<Clip>,
-) -> Mem<Mark>
-    requires { arc_value no_clip.now ≡ [] }
-    ensures { IfOk result (λ mark. mark ≡ mark_of state.now rule rings) }
-{
-    let mut shapes = Shapes::new(alloc);
-    shapes.push(Shape::Poly(rings))?;
-    Ok(Mark {
-        rule,
-        shapes,
-        clip: state.clip_or(no_clip)?,
-        paint: Paint::Flat(Ink::Plain(state.code)),
-    })
 }

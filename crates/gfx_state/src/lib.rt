@@ -10,6 +10,7 @@ mod colour;
 mod drawn;
 mod gfx;
 mod held;
+mod marks;
 mod matrices;
 mod paths;
 mod points;

@@ -1,0 +1,9 @@
+//! Stroke outlines: the shapes that a pen paints along lines.
+//!
+//! Proved against `specs/Pen.antt` (PostScript Language Reference, third edition, 4.5.1 Stroking).
+//! Start with `pen.rt`. Coordinates are sub-dots, 1/256 of a dot; y grows down the page.
+#![tactic(auto)]
+
+mod pen;
+
+pub use pen::{Cap, Dashes, Join, MAX_DASHES, Pen};
