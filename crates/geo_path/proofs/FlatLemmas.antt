@@ -8,7 +8,7 @@ use Rattle.geo_matrix.specs.Affine.{IsNear}
 use Rattle.geo_path.specs.declared.segment.Segment.{Segment}
 use Rattle.geo_path.specs.declared.segment.Segment.TheVariants.{Line, Curve}
 use Rattle.geo_path.specs.Curve.{control_length, pieces_of, curve_spot, curve_points}
-use Rattle.geo_path.specs.Path.{SubpathValue, IsNearSegment, IsNearSubpath, end_of}
+use Rattle.geo_path.specs.Path.{SubpathValue, IsNearSegment, IsNearSubpath, end_of, end_from, IsKept}
 use Rattle.geo_path.specs.Flat.{IsNearLine, added_by, added_from, flat}
 use Rattle.geo_path.proofs.CurveLemmas.{curve_near}
 
@@ -44,6 +44,15 @@ added_near at (Curve q r s) a h = curve_points_near at q r s a h.0 h.1 h.2
 pub end_near : (segment : Segment) → IsNearSegment segment → IsNear (end_of segment)
 end_near (Line p) h = h
 end_near (Curve q r s) h = h.2
+
+-- where segments end is near
+pub end_from_near : (at : Spot) (segments : List Segment) → IsNear at → All IsNearSegment segments → IsNear (end_from at segments)
+end_from_near at [] a h = a
+end_from_near at (segment ∷ rest) a h =
+    end_from_near (end_of segment) rest (end_near segment (All-head IsNearSegment segment rest h)) (All-tail IsNearSegment segment rest h)
+
+pub kept_near : (end : Spot) (s : SubpathValue) → IsKept end s → IsNear end
+kept_near end s h = subst (λ (p : Spot). IsNear p) (sym h.end_is) (end_from_near s.start s.segments h.near.start h.near.segments)
 
 all_added_near : (at : Spot) (segments : List Segment) → IsNear at → All IsNearSegment segments → All IsNear (added_from at segments)
 all_added_near at [] a h = All-nil IsNear

@@ -1,5 +1,5 @@
 //! Paths and what adds to them.
-ghost use Rattle.std.specs.Prelude.{◌≡◌, ◌≤◌, ◌<◌, ◌≢◌, ◌==◌, true, length, [], Some, None, Ok, Err, OnOk, OnErr, IfOk, IfErr};
+ghost use Rattle.std.specs.Prelude.{◌≡◌, ◌≤◌, ◌<◌, ◌≢◌, ◌==◌, true, length, [], Some, None, Ok, Err, OnOk, OnErr, IfOk, IfErr, IfSome};
 ghost use Rattle.std.specs.List.{All};
 ghost use Rattle.press_fault.specs.Plane.{Spot};
 ghost use Rattle.geo_matrix.specs.Affine.{IsNear, is_near};
@@ -103,7 +103,8 @@ impl Path {
 
     /// The current point, if there is one: where the last subpath ends, and its start once closed.
     pub fn current(&self) -> Option<Point>
-        ensures { result ≡ current_of self.now }
+        ensures value { result ≡ current_of self.now }
+        ensures near { IfSome result IsNear }
     {
         match self.parts.last() {
             None => None,

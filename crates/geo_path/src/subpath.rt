@@ -80,7 +80,8 @@ impl Subpath {
 
     /// The current point.
     pub fn current(&self) -> Point
-        ensures { result ≡ subpath_current self.now }
+        ensures value { result ≡ subpath_current self.now }
+        ensures near { IsNear result }
     {
         if self.closed { self.start } else { self.end }
     }

@@ -1,7 +1,8 @@
 -- Coordinate systems and matrices (PostScript Language Reference, third edition, 8.2 Operator Details: matrix, currentmatrix,
 -- setmatrix, concat, initmatrix, translate, scale, rotate, transform, itransform). Own rules: the types of all elements are asked
 -- before their number, and currentmatrix writes the first six elements whatever they are.
-use Rattle.std.specs.Prelude.{ℕ, ◌+◌, ℤ, Bool, List, [], ◌∷◌, drop, length, nat_lt, list_all, Option, Some, None, Result, Ok, Err, if◌then◌else◌}
+use Rattle.std.specs.Prelude.{ℕ, ◌+◌, ℤ, Bool, false, List, [], ◌∷◌, drop, length, nat_lt, Option, Some, None, Result, Ok, Err, if◌then◌else◌}
+use Rattle.std.specs.List.{list_all}
 use Rattle.std.specs.Option.{is_some}
 use Rattle.press_fault.specs.declared.names.PsName.{PsName}
 use Rattle.press_fault.specs.declared.names.PsName.TheVariants.{StackUnderflow, StackOverflow, TypeCheck, RangeCheck}
@@ -52,10 +53,13 @@ matrix_or_type a b c d tx ty = Err TypeCheck
 abbrev pub is_number : Obj → Bool
 is_number o = is_some (raw_of o)
 
--- the matrix that six objects are; an object that is no number is asked before how many there are
+abbrev pub six_or_range : List Obj → Result Affine PsName
+six_or_range (a ∷ b ∷ c ∷ d ∷ tx ∷ ty ∷ []) = matrix_or_type (raw_of a) (raw_of b) (raw_of c) (raw_of d) (raw_of tx) (raw_of ty)
+six_or_range objects = Err RangeCheck
+
+-- the matrix that objects are: first each has to be a number, then there have to be six
 abbrev pub matrix_of : List Obj → Result Affine PsName
-matrix_of (a ∷ b ∷ c ∷ d ∷ tx ∷ ty ∷ []) = matrix_or_type (raw_of a) (raw_of b) (raw_of c) (raw_of d) (raw_of tx) (raw_of ty)
-matrix_of objects = if list_all is_number objects then Err RangeCheck else Err TypeCheck
+matrix_of objects = if list_all is_number objects then six_or_range objects else Err TypeCheck
 
 -- the matrix that the top operand is
 abbrev pub one_matrix : List Obj → Kept → Result Affine PsName

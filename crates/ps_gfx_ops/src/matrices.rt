@@ -1,6 +1,7 @@
 //! Operators on the current transformation matrix, and on matrices that arrays hold.
-ghost use Rattle.std.specs.Prelude.{◌≡◌, list_all};
+ghost use Rattle.std.specs.Prelude.{◌≡◌};
 ghost use Rattle.ps_store.specs.Outcome.{Answers};
+ghost use Rattle.std.specs.List.{list_all};
 ghost use Rattle.ps_store.specs.Numbers.{raw_of};
 ghost use Rattle.gfx_state.specs.Graphics.{Graphics};
 ghost use Rattle.ps_gfx_ops.specs.Matrices.{elements_of, with_objects, is_number, matrix_or_type, matrix_of, one_matrix, matrix_row, currentmatrix_row, setmatrix_row, concat_row, translate_row, scale_row, rotate_row, transform_row, itransform_row};
@@ -92,15 +93,12 @@ fn one_matrix(stack: &Stack, store: &Store) -> Result<Matrix, PsName>
 fn matrix_of(objects: &[Obj]) -> Result<Matrix, PsName>
     ensures { result ≡ matrix_of objects.now }
 {
+    if !are_numbers(objects) {
+        return Err(PsName::TypeCheck);
+    }
     match objects {
         [a, b, c, d, tx, ty] => six(a, b, c, d, tx, ty),
-        _ => {
-            if are_numbers(objects) {
-                Err(PsName::RangeCheck)
-            } else {
-                Err(PsName::TypeCheck)
-            }
-        }
+        _ => Err(PsName::RangeCheck),
     }
 }
 

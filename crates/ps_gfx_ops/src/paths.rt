@@ -1,10 +1,10 @@
 //! Operators on the current path.
-ghost use Rattle.std.specs.Prelude.{◌≡◌, ◌≢◌, ◌+ℤ◌, OnOk, IfErr};
+ghost use Rattle.std.specs.Prelude.{◌≡◌, ◌≢◌, ◌≤◌, OnOk, IfErr, drop, length};
 ghost use Rattle.geo_matrix.specs.Affine.{IsNear};
-ghost use Rattle.geo_path.specs.Path.{closed};
+ghost use Rattle.geo_path.specs.Path.{curve_of, closed};
 ghost use Rattle.gfx_state.specs.Graphics.{with_path};
 ghost use Rattle.ps_store.specs.Outcome.{Answers};
-ghost use Rattle.ps_gfx_ops.specs.Paths.{error_of, stepped, moveto_row, lineto_row, rmoveto_row, rlineto_row, curveto_row, rcurveto_row, arc_row, currentpoint_row, fill_row};
+ghost use Rattle.ps_gfx_ops.specs.Paths.{error_of, drawn, stepped, moveto_row, lineto_row, rmoveto_row, rlineto_row, curveto_row, rcurveto_row, arc_row, currentpoint_row, fill_row};
 
 use crate::points::{one_point, three_points};
 use geo_matrix::{back, by_dots, to_dots};
@@ -140,13 +140,7 @@ pub(crate) fn curveto(stack: &mut Stack, gfx: &mut Gfx) -> Result<(), OpFault>
     let Ok(r) = to_dots(&gfx.matrix(), u.third.x, u.third.y) else {
         return Err(OpFault::Ps(PsName::LimitCheck));
     };
-    match gfx.curve_to(p, q, r) {
-        Ok(()) => {
-            stack.drop_top(6);
-            Ok(())
-        }
-        Err(fault) => Err(refusal(fault)),
-    }
+    draw_curve(stack, gfx, p, q, r)
 }
 
 /// `rcurveto`: a curve whose points are steps from the current point.
@@ -168,7 +162,29 @@ pub(crate) fn rcurveto(stack: &mut Stack, gfx: &mut Gfx) -> Result<(), OpFault>
     let Ok(r) = by_dots(&gfx.matrix(), u.third.x, u.third.y) else {
         return Err(OpFault::Ps(PsName::LimitCheck));
     };
-    match gfx.curve_to(stepped(at, p), stepped(at, q), stepped(at, r)) {
+    draw_curve(
+        stack,
+        gfx,
+        stepped(at, p),
+        stepped(at, q),
+        stepped(at, r),
+    )
+}
+
+/// Draws a curve from the current point, and drops its six operands.
+fn draw_curve(
+    stack: &mut Stack,
+    gfx: &mut Gfx,
+    p: Point,
+    q: Point,
+    r: Point,
+) -> Result<(), OpFault>
+    requires { 6 ≤ length stack.old }
+    ensures { Answers (drawn (curve_of gfx.old.state.path p q r) (drop 6 stack.old) gfx.old) result
+        (record { operands = stack.old; graphics = gfx.old })
+        (record { operands = stack.new; graphics = gfx.new }) }
+{
+    match gfx.curve_to(p, q, r) {
         Ok(()) => {
             stack.drop_top(6);
             Ok(())

@@ -1,5 +1,5 @@
 //! The points that operators take from the operands.
-ghost use Rattle.std.specs.Prelude.{◌≡◌};
+ghost use Rattle.std.specs.Prelude.{◌≡◌, ◌≤◌, OnOk, length};
 ghost use Rattle.ps_store.specs.Numbers.{raw_of};
 ghost use Rattle.ps_gfx_ops.specs.Points.{one_number, one_point, point_or_type, three_points};
 
@@ -29,7 +29,8 @@ impl Model for ThreePoints {
 
 /// The number that the top operand is.
 pub(crate) fn one_number(stack: &Stack) -> Result<Fix, PsName>
-    ensures { result ≡ one_number stack.now }
+    ensures value { result ≡ one_number stack.now }
+    ensures enough { OnOk result (1 ≤ length stack.now) }
 {
     let Some(n) = stack.top() else {
         return Err(PsName::StackUnderflow);
@@ -42,7 +43,8 @@ pub(crate) fn one_number(stack: &Stack) -> Result<Fix, PsName>
 
 /// The point that the top two operands are.
 pub(crate) fn one_point(stack: &Stack) -> Result<RealPoint, PsName>
-    ensures { result ≡ one_point stack.now }
+    ensures value { result ≡ one_point stack.now }
+    ensures enough { OnOk result (2 ≤ length stack.now) }
 {
     match stack.top_two() {
         Some((y, x)) => point_of(x, y),
@@ -52,7 +54,8 @@ pub(crate) fn one_point(stack: &Stack) -> Result<RealPoint, PsName>
 
 /// The three points that the top six operands are.
 pub(crate) fn three_points(stack: &Stack) -> Result<ThreePoints, PsName>
-    ensures { result ≡ three_points stack.now }
+    ensures value { result ≡ three_points stack.now }
+    ensures enough { OnOk result (6 ≤ length stack.now) }
 {
     let Some((y3, x3, y2, x2, y1, x1)) = stack.top_six() else {
         return Err(PsName::StackUnderflow);
