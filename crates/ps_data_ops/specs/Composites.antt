@@ -3,7 +3,7 @@
 -- before them, then the conditions from the outside to the inside.
 use Rattle.std.specs.Prelude.{ℕ, ℤ, pos, ◌+◌, false, ◌&&◌, List, [], ◌∷◌, ◌++◌, Option, Some, None, length, reverse, take, drop, int_le, nat_le, unsigned_abs, if◌then◌else◌}
 use Rattle.std.specs.List.{position_from}
-use Rattle.press_fault.specs.declared.names.PsName.TheVariants.{StackUnderflow, StackOverflow, TypeCheck, RangeCheck, LimitCheck, UnmatchedMark}
+use Rattle.press_fault.specs.declared.names.PsName.TheVariants.{StackUnderflow, StackOverflow, TypeCheck, LimitCheck, UnmatchedMark}
 use Rattle.press_fault.specs.declared.refusals.Grow.{Grow}
 use Rattle.press_fault.specs.declared.refusals.Grow.TheVariants.{LimitCheck as LimitCheckOfStore, NoMemory as NoMemoryOfStore}
 use Rattle.ps_store.specs.declared.fault.OpFault.{OpFault}

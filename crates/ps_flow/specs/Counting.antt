@@ -1,6 +1,6 @@
 -- `for` (PostScript Language Reference, third edition, 8.2 Operator Details). Own rules: a step of 0
 -- counts upwards, and a sum out of range ends the loop.
-use Rattle.std.specs.Prelude.{ℤ, pos, ◌+ℤ◌, ◌*ℤ◌, Bool, int_lt, Option, Some, None, if◌then◌else◌}
+use Rattle.std.specs.Prelude.{ℤ, pos, ◌+ℤ◌, Bool, int_lt, Option, Some, None, if◌then◌else◌}
 use Rattle.std.specs.Option.{option_map}
 use Rattle.press_nums.specs.Fix.{fix_of}
 use Rattle.press_nums.specs.Whole.{whole_of}

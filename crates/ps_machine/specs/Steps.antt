@@ -24,7 +24,7 @@ use Rattle.ps_flow.specs.Pushes.{with_pushes, number_of_pushes}
 use Rattle.ps_flow.specs.Course.{Course}
 use Rattle.ps_flow.specs.Rows.{flow_row}
 use Rattle.gfx_state.specs.Graphics.{with_initial, erased, page_of}
-use Rattle.ps_gfx_ops.specs.Easel.{Easel}
+use Rattle.ps_gfx_ops.specs.Scene.{Scene}
 use Rattle.ps_gfx_ops.specs.Rows.{gfx_row}
 use Rattle.ps_machine.specs.declared.turn.End.TheVariants.{Done}
 use Rattle.ps_machine.specs.State.{State}
@@ -43,8 +43,8 @@ after_data (GoesOn work) command s =
     Goes (record s { operands = work.operands; store = work.store; dicts = work.dicts; text = work.file })
 after_data (Refuses name) command s = failed name command s
 
-abbrev pub after_gfx : Outcome Easel → List ℕ → State → Step
-after_gfx (GoesOn easel) command s = Goes (record s { operands = easel.operands; graphics = easel.graphics })
+abbrev pub after_gfx : Outcome Scene → List ℕ → State → Step
+after_gfx (GoesOn scene) command s = Goes (record s { operands = scene.operands; store = scene.store; graphics = scene.graphics })
 after_gfx (Refuses name) command s = failed name command s
 
 -- the object that is to be executed at once comes next
@@ -72,7 +72,7 @@ unfoldable pub operate : Oper → State → Step
 operate (Stack op) s = after_stack (stack_row op s.operands s.store) (name_of (Stack op)) s
 operate (Data op) s = after_data (data_row op (work_of s)) (name_of (Data op)) s
 operate (Flow op) s = operate_flow op s
-operate (Gfx op) s = after_gfx (gfx_row op s.operands s.graphics) (name_of (Gfx op)) s
+operate (Gfx op) s = after_gfx (gfx_row op s.operands s.store s.graphics) (name_of (Gfx op)) s
 operate (Page Quit) s = Ends Done
 operate (Page Showpage) s = Shows (page_of s.graphics) (shown s)
 

@@ -132,9 +132,22 @@ impl Body {
     fn execute_at(&mut self, end: &mut End, place: Span) -> Mem<Turn>
         ensures { IfOk result (λ turn. execute (element self.old.store place 0) self.old ≡ step_of turn self.new end.new) }
     {
-        match self.store.operator_at(place, 0) {
-            Some(op) => self.operate(end, op),
-            None => {
+        match self.store.at(place, 0) {
+            Some(Obj::Oper(op)) => {
+                let op = *op;
+                self.operate(end, op)
+            }
+            Some(Obj::Name(name, true)) => match self.dicts.find_name(&self.store, name) {
+                Some(Obj::Oper(op)) => {
+                    let op = *op;
+                    self.operate(end, op)
+                }
+                found => {
+                    let (name, found) = (*name, found.copied());
+                    self.execute_value(end, &name, found)
+                }
+            },
+            _ => {
                 let o = self.store.get(place, 0);
                 self.execute(end, &o)
             }
@@ -229,9 +242,15 @@ impl Body {
 
     fn operate_gfx(&mut self, end: &mut End, op: GfxOp) -> Mem<Turn>
         ensures { IfOk result (λ turn.
-            after_gfx (gfx_row op self.old.operands self.old.graphics) (name_of (Oper.Gfx op)) self.old ≡ step_of turn self.new end.new) }
+            after_gfx (gfx_row op self.old.operands self.old.store self.old.graphics) (name_of (Oper.Gfx op)) self.old ≡ step_of turn self.new end.new) }
     {
-        match run_gfx(self.alloc, op, &mut self.stack, &mut self.gfx) {
+        match run_gfx(
+            self.alloc,
+            op,
+            &mut self.stack,
+            &mut self.store,
+            &mut self.gfx,
+        ) {
             Ok(()) => Ok(Turn::Went),
             Err(OpFault::Ps(name)) => Ok(self.fail(end, name, command_of(Oper::Gfx(op)))),
             Err(OpFault::NoMemory) => Err(NoMemory),
