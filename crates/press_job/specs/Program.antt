@@ -2,6 +2,7 @@
 use Rattle.std.specs.Prelude.{ℕ, List, Option, Some, None}
 use Rattle.press_fault.specs.declared.outcome.Status.{Status}
 use Rattle.press_fault.specs.declared.outcome.Status.TheVariants.{Done, Ps, NoMemory}
+use Rattle.gfx_state.specs.Graphics.{PageSize}
 use Rattle.ps_machine.specs.declared.turn.End.{End}
 use Rattle.ps_machine.specs.declared.turn.End.TheVariants.{Done as ItsEnd, Ps as ItsError}
 use Rattle.ps_machine.specs.Meaning.{Meaning as Told, meaning_of as told_of}
@@ -15,9 +16,8 @@ status_of (ItsError name command) = Ps name command
 abbrev pub job_of_program : Told → Meaning
 job_of_program told = record { pages = told.pages; end = status_of told.end }
 
--- at 72 dots an inch, so that a dot is a point
-abbrev pub meaning_of : ℕ → ℕ → List ℕ → Meaning
-meaning_of width height text = job_of_program (told_of text (record { width = width; height = height; res = 72 }))
+abbrev pub meaning_of : PageSize → List ℕ → Meaning
+meaning_of page text = job_of_program (told_of text page)
 
 -- what a machine still means; after out of memory it ends so
 abbrev pub left_of : Option Told → Meaning

@@ -1,6 +1,6 @@
 //! A program that runs: it hands out its pages one by one, and then its end.
 ghost use Rattle.std.specs.Prelude.{◌≡◌, ◌≤◌, length, IfOk};
-ghost use Rattle.press_job.specs.Painted.{IsPageSize, IsDrawable};
+ghost use Rattle.press_job.specs.Painted.{IsDrawable};
 ghost use Rattle.press_job.specs.Program.{meaning_of, status_of};
 ghost use Rattle.press_job.specs.Turn.{after, IsFairEvent};
 
@@ -9,9 +9,6 @@ use press_fault::{Mem, NoMemory, Status};
 use ps_machine::{End, Setup};
 use std::alloc::Global;
 use std::marker::Model;
-
-/// The dots of an inch.
-const RES: u32 = 72;
 
 /// What a program does next.
 #[derive(Drop)]
@@ -38,18 +35,13 @@ impl Model for Machine {
 }
 
 impl Machine {
-    pub(crate) fn new(alloc: Global, program: Vec<u8>, width: u32, height: u32) -> Mem<Machine>
-        requires { IsPageSize width height }
-        ensures means { IfOk result (λ machine. machine ≡ meaning_of width height program.items) }
-        ensures few { length (meaning_of width height program.items).pages ≤ 1000000000000 }
+    /// A program at its start, on a page of this size.
+    pub(crate) fn new(alloc: Global, program: Vec<u8>, page: Setup) -> Mem<Machine>
+        ensures means { IfOk result (λ machine. machine ≡ meaning_of page program.items) }
+        ensures few { length (meaning_of page program.items).pages ≤ 1000000000000 }
     {
-        let setup = Setup {
-            width,
-            height,
-            res: RES,
-        };
         Ok(Machine {
-            interpreter: ps_machine::Machine::new(alloc, program, setup)?,
+            interpreter: ps_machine::Machine::new(alloc, program, page)?,
         })
     }
 

@@ -14,7 +14,8 @@ use Rattle.ps_store.specs.declared.obj.Obj.TheVariants.{Array, Real}
 use Rattle.ps_store.specs.declared.obj.Span.{Span}
 use Rattle.ps_store.specs.Numbers.{raw_of}
 use Rattle.ps_store.specs.Outcome.{Outcome, Goes, Refuses, or_limit, or_undefined_result, or_refusal}
-use Rattle.ps_store.specs.Store.{Kept, with_array_of, objects_of, put_at}
+use Rattle.ps_store.specs.Store.{Kept, with_array_of, objects_of}
+use Rattle.ps_store.specs.Gathering.{with_elements}
 use Rattle.gfx_state.specs.Graphics.{Graphics, concatenated, with_matrix, translation, scaling}
 use Rattle.ps_gfx_ops.specs.Easel.{Easel}
 use Rattle.ps_gfx_ops.specs.Scene.{Scene}
@@ -32,16 +33,11 @@ matrix_row operands s g =
       Goes (record { operands = Array new.0 false ∷ operands; store = new.1; graphics = g }))
     else Refuses StackOverflow
 
--- the store with these objects from a place of an array on
-abbrev pub with_objects : Kept → Span → ℕ → List Obj → Kept
-with_objects s p at [] = s
-with_objects s p at (o ∷ rest) = with_objects (put_at s p at o) p (at + 1) rest
-
 -- `currentmatrix`: the current transformation matrix in the first six elements of an array
 abbrev pub currentmatrix_row : List Obj → Kept → Graphics → Outcome Scene
 currentmatrix_row (Array p x ∷ rest) s g =
     if nat_lt p.len 6 then Refuses RangeCheck
-    else Goes (record { operands = Array p x ∷ rest; store = with_objects s p 0 (elements_of g.state.matrix); graphics = g })
+    else Goes (record { operands = Array p x ∷ rest; store = with_elements s p 0 (elements_of g.state.matrix); graphics = g })
 currentmatrix_row (o ∷ rest) s g = Refuses TypeCheck
 currentmatrix_row [] s g = Refuses StackUnderflow
 

@@ -3,8 +3,9 @@ ghost use Rattle.std.specs.Prelude.{◌≡◌};
 ghost use Rattle.ps_store.specs.Outcome.{Answers};
 ghost use Rattle.std.specs.List.{list_all};
 ghost use Rattle.ps_store.specs.Numbers.{raw_of};
+ghost use Rattle.ps_store.specs.Gathering.{with_elements};
 ghost use Rattle.gfx_state.specs.Graphics.{Graphics};
-ghost use Rattle.ps_gfx_ops.specs.Matrices.{elements_of, with_objects, is_number, matrix_or_type, matrix_of, one_matrix, matrix_row, currentmatrix_row, setmatrix_row, concat_row, translate_row, scale_row, rotate_row, transform_row, itransform_row};
+ghost use Rattle.ps_gfx_ops.specs.Matrices.{elements_of, is_number, matrix_or_type, matrix_of, one_matrix, matrix_row, currentmatrix_row, setmatrix_row, concat_row, translate_row, scale_row, rotate_row, transform_row, itransform_row};
 
 use crate::points::{one_number, one_point};
 use geo_matrix::{Matrix, device_of, user_of};
@@ -66,7 +67,7 @@ pub(crate) fn currentmatrix(stack: &mut Stack, store: &mut Store, gfx: &Gfx) -> 
 
 /// Writes the elements of a matrix from the start of an array.
 fn put_matrix(store: &mut Store, span: Span, m: &Matrix)
-    ensures { store.new ≡ with_objects store.old span 0 (elements_of m.now) }
+    ensures { store.new ≡ with_elements store.old span 0 (elements_of m.now) }
 {
     store.put(span, 0, Obj::Real(m.a));
     store.put(span, 1, Obj::Real(m.b));

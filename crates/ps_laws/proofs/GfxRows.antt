@@ -1,26 +1,53 @@
 -- The graphics operators leave at most 500 operands.
-use Rattle.std.specs.Prelude.{ℤ}
-use Rattle.std.proofs.Common.{◌≤◌, List, [], ◌∷◌, length, Option, Some, None, Result, Ok, Err, arith}
+use Rattle.std.specs.Prelude.{ℤ, nat_lt, true, false}
+use Rattle.std.proofs.Common.{◌≤◌, ◌<◌, List, [], ◌∷◌, length, drop, Option, Some, None, Result, Ok, Err, arith}
+use Rattle.std.proofs.lemmas.Bool.{ltb-true}
+use Rattle.std.proofs.lemmas.List.{length-drop}
 use Rattle.press_fault.specs.Plane.{Spot}
 use Rattle.press_fault.specs.declared.names.PsName.{PsName}
 use Rattle.ps_store.specs.declared.obj.Obj.{Obj}
-use Rattle.ps_store.specs.declared.obj.Obj.TheVariants.{Real}
+use Rattle.ps_store.specs.declared.obj.Obj.TheVariants.{Array, Real}
+use Rattle.ps_store.specs.declared.obj.Span.{Span}
 use Rattle.ps_store.specs.declared.oper.GfxOp.{GfxOp}
-use Rattle.ps_store.specs.declared.oper.GfxOp.TheVariants.{Currentgray, Setgray, Setrgbcolor, Setcmykcolor, Rectfill, Erasepage}
+use Rattle.ps_store.specs.declared.oper.GfxOp.TheVariants as OnGfx
 use Rattle.ps_store.specs.Numbers.{raw_of}
-use Rattle.ps_store.specs.Outcome.{Outcome, Goes, Refuses}
-use Rattle.page_model.specs.declared.shape.Rule.TheVariants.{Nonzero}
+use Rattle.ps_store.specs.Outcome.{Outcome, Goes, Refuses, or_limit}
+use Rattle.ps_store.specs.Store.{Kept, with_array_of}
+use Rattle.page_model.specs.declared.shape.Rule.TheVariants.{Nonzero, EvenOdd}
 use Rattle.gfx_state.specs.Colour.{gray_of}
 use Rattle.gfx_state.specs.Graphics.{Graphics, painted}
+use Rattle.geo_matrix.specs.Affine.{identity}
 use Rattle.ps_gfx_ops.specs.Easel.{Easel}
+use Rattle.ps_gfx_ops.specs.Scene.{Scene, beside}
 use Rattle.ps_gfx_ops.specs.Colours.{one_component, setgray_row, three_components, setrgbcolor_row, four_components, setcmykcolor_row, on_easel}
+use Rattle.ps_gfx_ops.specs.Matrices.{elements_of, matrix_row, currentmatrix_row}
 use Rattle.ps_gfx_ops.specs.Rectangles.{rectangle_of, or_no_room, filled, with_sides, rectfill_row}
 use Rattle.ps_gfx_ops.specs.Rows.{gfx_row}
-use Rattle.ps_laws.proofs.Operands.{Few, few_pushed}
+use Rattle.ps_laws.proofs.Operands.{Few, by_test, few_pushed}
+use Rattle.ps_laws.proofs.EaselRows.{After, Dropped, InPlace, OnTop, after_gsave, after_moveto, after_lineto, after_rmoveto, after_rlineto, after_curveto, after_rcurveto, after_arc, after_currentpoint, after_fill, after_setmatrix, after_concat, after_translate, after_scale, after_rotate, after_transform, after_itransform}
+
+abbrev pub AtMost500 : List Obj → Type 0
+AtMost500 operands = length operands ≤ 500
 
 abbrev pub FewOfEasel : Outcome Easel → Type 0
-FewOfEasel (Goes easel) = length easel.operands ≤ 500
-FewOfEasel (Refuses name) = Unit {0}
+FewOfEasel outcome = After AtMost500 outcome
+
+abbrev pub FewOfScene : Outcome Scene → Type 0
+FewOfScene (Goes scene) = length scene.operands ≤ 500
+FewOfScene (Refuses name) = Unit {0}
+
+few_beside : (s : Kept) (outcome : Outcome Easel) → FewOfEasel outcome → FewOfScene (beside s outcome)
+few_beside s (Goes easel) h = h
+few_beside s (Refuses name) h = tt
+
+few_dropped : (os : List Obj) → length os ≤ 500 → Dropped AtMost500 os
+few_dropped os h n = let l = length-drop n os in omega arith
+
+few_in_place : (os : List Obj) → length os ≤ 500 → InPlace AtMost500 os
+few_in_place os h a b = let l = length-drop 2 os in omega arith
+
+few_on_top : (os : List Obj) → OnTop AtMost500 os
+few_on_top os a b h = omega arith
 
 few_on_easel : (g : Graphics) (outcome : Outcome (List Obj)) → Few outcome → FewOfEasel (on_easel g outcome)
 few_on_easel g (Goes operands) h = h
@@ -66,11 +93,51 @@ few_rectfill : (operands : List Obj) (g : Graphics) → length operands ≤ 500 
 few_rectfill (h ∷ w ∷ y ∷ x ∷ rest) g few = few_sides (raw_of x) (raw_of y) (raw_of w) (raw_of h) rest g (omega arith)
 few_rectfill operands g few = tt
 
-pub gfx_few : (op : GfxOp) (operands : List Obj) (g : Graphics) → length operands ≤ 500 → FewOfEasel (gfx_row op operands g)
+few_new : (made : Option (Span × Kept)) (os : List Obj) (g : Graphics) → length os < 500 → FewOfScene (or_limit made (λ new. Goes (record { operands = Array new.0 false ∷ os; store = new.1; graphics = g })))
+few_new (Some new) os g h = omega arith
+few_new None os g h = tt
+
+few_matrix : (os : List Obj) (s : Kept) (g : Graphics) → FewOfScene (matrix_row os s g)
+few_matrix os s g = by_test FewOfScene (nat_lt (length os) 500) _ _
+    (λ e. few_new (with_array_of s (elements_of identity)) os g (ltb-true (length os) 500 e)) (λ e. tt)
+
+few_currentmatrix : (os : List Obj) (s : Kept) (g : Graphics) → length os ≤ 500 → FewOfScene (currentmatrix_row os s g)
+few_currentmatrix (Array p x ∷ rest) s g h = by_test FewOfScene (nat_lt p.len 6) (Refuses _) _ (λ e. tt) (λ e. h)
+few_currentmatrix (o ∷ rest) s g h = tt
+few_currentmatrix [] s g h = tt
+
+pub gfx_few : (op : GfxOp) (operands : List Obj) (s : Kept) (g : Graphics) → length operands ≤ 500 → FewOfScene (gfx_row op operands s g)
 unfolding gfx_row
-gfx_few Currentgray os g h = few_on_easel g _ (few_pushed (Real (gray_of g.state.space g.state.code.c)) os)
-gfx_few Setgray os g h = few_setgray os g h
-gfx_few Setrgbcolor os g h = few_setrgbcolor os g h
-gfx_few Setcmykcolor os g h = few_setcmykcolor os g h
-gfx_few Rectfill os g h = few_rectfill os g h
-gfx_few Erasepage os g h = h
+gfx_few OnGfx.Gsave os s g h = few_beside s _ (after_gsave AtMost500 os g (few_dropped os h))
+gfx_few OnGfx.Grestore os s g h = h
+gfx_few OnGfx.Grestoreall os s g h = h
+gfx_few OnGfx.Initgraphics os s g h = h
+gfx_few OnGfx.Currentgray os s g h = few_beside s _ (few_on_easel g _ (few_pushed (Real (gray_of g.state.space g.state.code.c)) os))
+gfx_few OnGfx.Setgray os s g h = few_beside s _ (few_setgray os g h)
+gfx_few OnGfx.Setrgbcolor os s g h = few_beside s _ (few_setrgbcolor os g h)
+gfx_few OnGfx.Setcmykcolor os s g h = few_beside s _ (few_setcmykcolor os g h)
+gfx_few OnGfx.Matrix os s g h = few_matrix os s g
+gfx_few OnGfx.Currentmatrix os s g h = few_currentmatrix os s g h
+gfx_few OnGfx.Setmatrix os s g h = few_beside s _ (after_setmatrix AtMost500 os s g (few_dropped os h))
+gfx_few OnGfx.Concat os s g h = few_beside s _ (after_concat AtMost500 os s g (few_dropped os h))
+gfx_few OnGfx.Initmatrix os s g h = h
+gfx_few OnGfx.Translate os s g h = few_beside s _ (after_translate AtMost500 os g (few_dropped os h))
+gfx_few OnGfx.Scale os s g h = few_beside s _ (after_scale AtMost500 os g (few_dropped os h))
+gfx_few OnGfx.Rotate os s g h = few_beside s _ (after_rotate AtMost500 os g (few_dropped os h))
+gfx_few OnGfx.Transform os s g h = few_beside s _ (after_transform AtMost500 os g (few_in_place os h))
+gfx_few OnGfx.Itransform os s g h = few_beside s _ (after_itransform AtMost500 os g (few_in_place os h))
+gfx_few OnGfx.Newpath os s g h = h
+gfx_few OnGfx.Closepath os s g h = h
+gfx_few OnGfx.Moveto os s g h = few_beside s _ (after_moveto AtMost500 os g (few_dropped os h))
+gfx_few OnGfx.Lineto os s g h = few_beside s _ (after_lineto AtMost500 os g (few_dropped os h))
+gfx_few OnGfx.Rmoveto os s g h = few_beside s _ (after_rmoveto AtMost500 os g (few_dropped os h))
+gfx_few OnGfx.Rlineto os s g h = few_beside s _ (after_rlineto AtMost500 os g (few_dropped os h))
+gfx_few OnGfx.Curveto os s g h = few_beside s _ (after_curveto AtMost500 os g (few_dropped os h))
+gfx_few OnGfx.Rcurveto os s g h = few_beside s _ (after_rcurveto AtMost500 os g (few_dropped os h))
+gfx_few OnGfx.Arc os s g h = few_beside s _ (after_arc AtMost500 false os g (few_dropped os h))
+gfx_few OnGfx.Arcn os s g h = few_beside s _ (after_arc AtMost500 true os g (few_dropped os h))
+gfx_few OnGfx.Currentpoint os s g h = few_beside s _ (after_currentpoint AtMost500 os g (few_on_top os))
+gfx_few OnGfx.Fill os s g h = few_beside s _ (after_fill AtMost500 Nonzero os g (few_dropped os h))
+gfx_few OnGfx.Eofill os s g h = few_beside s _ (after_fill AtMost500 EvenOdd os g (few_dropped os h))
+gfx_few OnGfx.Rectfill os s g h = few_beside s _ (few_rectfill os g h)
+gfx_few OnGfx.Erasepage os s g h = h

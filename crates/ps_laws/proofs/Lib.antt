@@ -3,6 +3,7 @@ pub mod Operands
 pub mod StackRows
 pub mod DataRows
 pub mod FlowRows
+pub mod EaselRows
 pub mod GfxRows
 pub mod Steps
 pub mod Tokens

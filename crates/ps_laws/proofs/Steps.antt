@@ -19,7 +19,7 @@ use Rattle.ps_store.specs.Dicts.{find_key}
 use Rattle.ps_store.specs.Outcome.{Outcome, Goes as GoesOn, Refuses}
 use Rattle.ps_stack_ops.specs.Rows.{stack_row}
 use Rattle.ps_data_ops.specs.Rows.{Work, data_row}
-use Rattle.ps_gfx_ops.specs.Easel.{Easel}
+use Rattle.ps_gfx_ops.specs.Scene.{Scene}
 use Rattle.ps_gfx_ops.specs.Rows.{gfx_row}
 use Rattle.ps_flow.specs.declared.level.Level.{Level}
 use Rattle.ps_flow.specs.declared.level.Level.TheVariants.{Procedure}
@@ -37,7 +37,7 @@ use Rattle.ps_laws.proofs.Operands.{by_test}
 use Rattle.ps_laws.proofs.StackRows.{FewOfDesk, stack_few}
 use Rattle.ps_laws.proofs.DataRows.{DataFits, data_fits}
 use Rattle.ps_laws.proofs.FlowRows.{AllShrinks, StopFits, flow_shrinks, stop_fits}
-use Rattle.ps_laws.proofs.GfxRows.{FewOfEasel, gfx_few}
+use Rattle.ps_laws.proofs.GfxRows.{FewOfScene, gfx_few}
 
 -- an error leaves at most so many levels
 abbrev CatchFits : ℕ → Caught → Type 0
@@ -94,8 +94,8 @@ lowers_data : (n : ℕ) (outcome : Outcome Work) (command : List ℕ) (s : State
 lowers_data n (GoesOn work) command s h f = let w = idle_zero s.at_once (length work.operands) h.1 in ((f.0, h.0.1, f.1, f.2), omega arith)
 lowers_data n (Refuses name) command s h f = lowers_failed n name command s h
 
-lowers_gfx : (n : ℕ) (outcome : Outcome Easel) (command : List ℕ) (s : State) → Idle n s → FewOfEasel outcome → Lowers n (after_gfx outcome command s)
-lowers_gfx n (GoesOn easel) command s h f = let w = idle_zero s.at_once (length easel.operands) h.1 in ((f, h.0.1, h.0.2, h.0.3), omega arith)
+lowers_gfx : (n : ℕ) (outcome : Outcome Scene) (command : List ℕ) (s : State) → Idle n s → FewOfScene outcome → Lowers n (after_gfx outcome command s)
+lowers_gfx n (GoesOn scene) command s h f = let w = idle_zero s.at_once (length scene.operands) h.1 in ((f, h.0.1, h.0.2, h.0.3), omega arith)
 lowers_gfx n (Refuses name) command s h f = lowers_failed n name command s h
 
 lowers_flow : (n : ℕ) (outcome : Outcome (Course × Kept)) (command : List ℕ) (s : State) → Ready n s → AllShrinks (length s.operands) (length s.levels) outcome → Lowers n (after_flow outcome command s)
@@ -115,7 +115,7 @@ unfolding operate
 lowers_operate n (Stack op) s h = lowers_stack n (stack_row op s.operands s.store) (name_of (Stack op)) s (idle n s h) (stack_few op s.operands s.store h.0.0)
 lowers_operate n (Data op) s h = lowers_data n (data_row op (work_of s)) (name_of (Data op)) s (idle n s h) (data_fits op (work_of s) (h.0.0, h.0.2, h.0.3, omega arith))
 lowers_operate n (Flow op) s h = lowers_operate_flow n op s h
-lowers_operate n (Gfx op) s h = lowers_gfx n (gfx_row op s.operands s.graphics) (name_of (Gfx op)) s (idle n s h) (gfx_few op s.operands s.graphics h.0.0)
+lowers_operate n (Gfx op) s h = lowers_gfx n (gfx_row op s.operands s.store s.graphics) (name_of (Gfx op)) s (idle n s h) (gfx_few op s.operands s.store s.graphics h.0.0)
 lowers_operate n (Page Quit) s h = tt
 lowers_operate n (Page Showpage) s h = let w = idle_zero s.at_once (length s.operands) h.1 in (h.0, omega arith)
 

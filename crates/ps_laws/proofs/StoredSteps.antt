@@ -18,7 +18,7 @@ use Rattle.ps_store.specs.Dicts.{find_key}
 use Rattle.ps_store.specs.Outcome.{Outcome, Goes as GoesOn, Refuses}
 use Rattle.ps_stack_ops.specs.Rows.{stack_row}
 use Rattle.ps_data_ops.specs.Rows.{Work, data_row}
-use Rattle.ps_gfx_ops.specs.Easel.{Easel}
+use Rattle.ps_gfx_ops.specs.Scene.{Scene}
 use Rattle.ps_gfx_ops.specs.Rows.{gfx_row}
 use Rattle.ps_flow.specs.declared.level.Level.{Level}
 use Rattle.ps_flow.specs.declared.level.Level.TheVariants.{Procedure}
@@ -37,7 +37,7 @@ use Rattle.ps_laws.proofs.Each.{Sound, Grown, OfSome, each_weaker, is_more, are_
 use Rattle.ps_laws.proofs.StoredStack.{DeskOf, stack_of}
 use Rattle.ps_laws.proofs.StoredData.{DataOf, below_more, find_is, data_of}
 use Rattle.ps_laws.proofs.StoredFlow.{FlowOf, levels_more, flow_of}
-use Rattle.ps_laws.proofs.StoredGfx.{EaselOf, gfx_of}
+use Rattle.ps_laws.proofs.StoredGfx.{SceneOf, gfx_of}
 
 abbrev pub Stored : State → Type 0
 Stored s = Sound s.store × Each (IsOf (length s.store.made)) s.operands × Each (λ (d : ℕ). d < length s.store.made) s.dicts
@@ -96,8 +96,8 @@ keeps_data : (outcome : Outcome Work) (command : List ℕ) (s : State) → Store
 keeps_data (GoesOn work) command s h k = let g = stored_grown s work.store h k.0 in (g.0, k.1, k.2, g.3, g.4, g.5)
 keeps_data (Refuses name) command s h k = keeps_failed name command s h
 
-keeps_gfx : (outcome : Outcome Easel) (command : List ℕ) (s : State) → Stored s → EaselOf (length s.store.made) outcome → Keeps (after_gfx outcome command s)
-keeps_gfx (GoesOn easel) command s h k = (h.0, k, h.2, h.3, h.4, h.5)
+keeps_gfx : (outcome : Outcome Scene) (command : List ℕ) (s : State) → Stored s → SceneOf (length s.store.made) outcome → Keeps (after_gfx outcome command s)
+keeps_gfx (GoesOn scene) command s h k = let g = stored_grown s scene.store h k.0 in (g.0, k.1, g.2, g.3, g.4, g.5)
 keeps_gfx (Refuses name) command s h k = keeps_failed name command s h
 
 keeps_flow : (outcome : Outcome (Course × Kept)) (command : List ℕ) (s : State) → Stored s → FlowOf (length s.store.made) outcome → Keeps (after_flow outcome command s)
@@ -118,7 +118,7 @@ unfolding operate
 keeps_operate (Stack op) s h = keeps_stack (stack_row op s.operands s.store) (name_of (Stack op)) s h (stack_of op s.operands s.store h.0 h.1)
 keeps_operate (Data op) s h = keeps_data (data_row op (work_of s)) (name_of (Data op)) s h (data_of op (work_of s) ((h.0, omega arith), h.1, h.2))
 keeps_operate (Flow op) s h = keeps_operate_flow op s h
-keeps_operate (Gfx op) s h = keeps_gfx (gfx_row op s.operands s.graphics) (name_of (Gfx op)) s h (gfx_of (length s.store.made) op s.operands s.graphics h.1)
+keeps_operate (Gfx op) s h = keeps_gfx (gfx_row op s.operands s.store s.graphics) (name_of (Gfx op)) s h (gfx_of op s.operands s.store s.graphics h.0 h.1)
 keeps_operate (Page Quit) s h = tt
 keeps_operate (Page Showpage) s h = h
 

@@ -6,6 +6,8 @@
 
 mod body;
 mod errors;
+#[cfg(test)]
+mod graphics;
 mod machine;
 mod opening;
 mod reading;
