@@ -36,6 +36,12 @@ fn a_width_has_no_sign(rt: HostRuntime) -> Result<(), Fail> {
     Ok(())
 }
 
+/// The cap and the join.
+fn ends(gfx: &Gfx) -> (Cap, Join) {
+    let line = &gfx.state.line;
+    (line.cap, line.join)
+}
+
 #[test]
 fn caps_and_joins_have_numbers(rt: HostRuntime) -> Result<(), Fail> {
     // the number, the answer, the cap and the join then
@@ -50,9 +56,14 @@ fn caps_and_joins_have_numbers(rt: HostRuntime) -> Result<(), Fail> {
         let mut gfx = fresh(&rt)?;
         assert_eq!(rt; gfx.set_cap(Whole::of(number)), answer, "cap {number}");
         assert_eq!(rt; gfx.set_join(Whole::of(number)), answer, "join {number}");
-        assert_eq!(rt; (gfx.state.line.cap, gfx.state.line.join), (cap, join));
+        assert_eq!(rt; ends(&gfx), (cap, join));
     }
     Ok(())
+}
+
+fn miter(gfx: &Gfx) -> i64 {
+    let line = &gfx.state.line;
+    line.miter.raw()
 }
 
 #[test]
@@ -67,7 +78,7 @@ fn a_miter_limit_is_1_at_least(rt: HostRuntime) -> Result<(), Fail> {
     for (limit, answer, then) in cases {
         let mut gfx = fresh(&rt)?;
         assert_eq!(rt; gfx.set_miter(number(limit)), answer, "{limit}");
-        assert_eq!(rt; gfx.state.line.miter.raw(), then, "{limit}");
+        assert_eq!(rt; miter(&gfx), then, "{limit}");
     }
     Ok(())
 }
@@ -231,7 +242,8 @@ fn a_clip_has_256_regions(rt: HostRuntime) -> Result<(), Fail> {
         assert_eq!(rt; gfx.clip(Rule::Nonzero), Ok(()));
     }
     assert_eq!(rt; gfx.clip(Rule::Nonzero), Err(Grow::LimitCheck));
-    assert_eq!(rt; gfx.state.regions(), 256);
+    let state = &gfx.state;
+    assert_eq!(rt; state.regions(), 256);
     gfx.initial_clip();
     assert_eq!(rt; gfx.clip(Rule::Nonzero), Ok(()));
     Ok(())
