@@ -1,14 +1,16 @@
 -- The graphics state, its saved copies, and the page that is painted
 -- (PostScript Language Reference, third edition, 4.2 Graphics State and 8.2 Graphics State Operators).
-use Rattle.std.specs.Prelude.{ℕ, ℤ, pos, neg_ℤ, ◌+◌, ◌*◌, ◌&&◌, List, [], ◌∷◌, ◌++◌, length, reverse, take, slice_get, Option, Some, None, Result, Ok, Err, nat_lt, nat_le, Bool, if◌then◌else◌}
+use Rattle.std.specs.Prelude.{ℕ, ℤ, pos, neg_ℤ, int_lt, unsigned_abs, ◌+◌, ◌*◌, ◌&&◌, List, [], ◌∷◌, ◌++◌, length, reverse, take, slice_get, Option, Some, None, Result, Ok, Err, nat_lt, nat_le, Bool, if◌then◌else◌}
 use Rattle.std.specs.Option.{option_map}
 use Rattle.press_nums.specs.Rounding.{div_round}
+use Rattle.press_nums.specs.Fix.{fix_of}
 use Rattle.press_fault.specs.Plane.{Spot, Channels}
 use Rattle.geo_matrix.specs.Affine.{Affine, identity}
 use Rattle.geo_matrix.specs.Product.{concat_of}
 use Rattle.geo_path.specs.declared.path.PathFault.{PathFault}
 use Rattle.geo_path.specs.Path.{PathValue, count_of}
 use Rattle.geo_path.specs.Flat.{lines_of, rings_of}
+use Rattle.geo_stroke.specs.Pen.{cap_of, join_of}
 use Rattle.page_model.specs.Marking.{Marking, Flatly}
 use Rattle.page_model.specs.Page.{Sheet}
 use Rattle.page_model.specs.declared.shape.Rule.{Rule}
@@ -18,6 +20,7 @@ use Rattle.page_model.specs.declared.mark.Ink.TheVariants.{Plain}
 use Rattle.gfx_state.specs.declared.colour.Space.{Space}
 use Rattle.gfx_state.specs.declared.colour.Space.TheVariants.{Gray}
 use Rattle.gfx_state.specs.Colour.{codes_of, first_colour}
+use Rattle.gfx_state.specs.Lines.{LineParameters, initial_line}
 use Rattle.gfx_state.specs.Points.{ring_points, mark_points}
 
 -- a page's size in dots, and the dots of an inch
@@ -26,13 +29,15 @@ pub record PageSize : Type 0 where
   pub height : ℕ
   pub res : ℕ
 
--- one graphics state: the current transformation matrix, the colour space, the colour's codes, the path and the clip
+-- one graphics state: the current transformation matrix, the colour space, the colour's codes, the path, the clip and
+-- the line parameters
 pub record GraphicsState : Type 0 where
   pub matrix : Affine
   pub space : Space
   pub code : Channels
   pub path : PathValue
   pub clip : List Region
+  pub line : LineParameters
 
 -- the page's size, the current state, its saved copies (the last one saved first), and the marks of the page so far
 pub record Graphics : Type 0 where
@@ -62,7 +67,7 @@ no_path = record { before = []; last = None }
 
 -- what initgraphics sets
 abbrev pub initial_state : PageSize → GraphicsState
-initial_state size = record { matrix = default_matrix size; space = Gray; code = first_colour Gray; path = no_path; clip = [] }
+initial_state size = record { matrix = default_matrix size; space = Gray; code = first_colour Gray; path = no_path; clip = []; line = initial_line }
 
 -- a blank page, as a program finds it
 abbrev pub opening : PageSize → Graphics
@@ -119,6 +124,49 @@ with_space g space = with_state g (record g.state { space = space; code = first_
 -- with another colour of the same space
 abbrev pub with_colour : Graphics → List ℤ → Graphics
 with_colour g values = with_state g (record g.state { code = codes_of values })
+
+-- with other line parameters
+abbrev pub with_line : Graphics → LineParameters → Graphics
+with_line g line = with_state g (record g.state { line = line })
+
+-- with another line width, taken without its sign, where that is a real number
+abbrev pub with_width : Graphics → ℤ → Option Graphics
+with_width g width = option_map (λ magnitude. with_line g (record g.state.line { width = magnitude })) (fix_of (pos (unsigned_abs width)))
+
+-- with the cap of a number, where there is one
+abbrev pub with_cap : Graphics → ℤ → Option Graphics
+with_cap g number = option_map (λ cap. with_line g (record g.state.line { cap = cap })) (cap_of number)
+
+-- with the join of a number, where there is one
+abbrev pub with_join : Graphics → ℤ → Option Graphics
+with_join g number = option_map (λ join. with_line g (record g.state.line { join = join })) (join_of number)
+
+-- with another miter limit, of 1 at least
+abbrev pub with_miter : Graphics → ℤ → Option Graphics
+with_miter g limit = if int_lt limit (pos 65536) then None else Some (with_line g (record g.state.line { miter = limit }))
+
+-- with other dashes and another offset
+abbrev pub with_dash : Graphics → List ℤ → ℤ → Graphics
+with_dash g dashes offset = with_line g (record g.state.line { dashes = dashes; offset = offset })
+
+-- with another clip
+abbrev pub with_clip : Graphics → List Region → Graphics
+with_clip g clip = with_state g (record g.state { clip = clip })
+
+-- a path as a region of a clip: the rings of its subpaths
+abbrev pub region_of : Rule → PathValue → Region
+region_of rule path = record { rule = rule; rings = rings_of (lines_of path) }
+
+-- with the path as one more region of the clip, at most 256; the path stays
+abbrev pub clipped : Graphics → Rule → Option Graphics
+clipped g rule =
+    if nat_lt (length g.state.clip) 256
+    then Some (with_clip g (g.state.clip ++ region_of rule g.state.path ∷ []))
+    else None
+
+-- with the whole page as the clip: no regions
+abbrev pub with_initial_clip : Graphics → Graphics
+with_initial_clip g = with_clip g []
 
 -- with a copy of the current state saved, at most 32
 abbrev pub saved_state : Graphics → Option Graphics

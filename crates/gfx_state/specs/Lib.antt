@@ -1,4 +1,5 @@
 pub mod Colour
+pub mod Lines
 pub mod Clipped
 pub mod Held
 pub mod Points

@@ -6,6 +6,7 @@ ghost use Rattle.gfx_state.specs.Colour.{channels_of, gray_of};
 
 use crate::colour::{Space, codes, gray};
 use crate::held::HeldPath;
+use crate::line_style::LineStyle;
 use crate::state::{SAVED, Saved, State};
 use geo_matrix::Matrix;
 use page_model::{Clip, Marks, Page};
@@ -187,6 +188,7 @@ fn initial(alloc: Global, height: u32, res: u32) -> State
         code: Space::Gray.first_colour(),
         path: HeldPath::new(alloc),
         clip: None,
+        line: LineStyle::initial(),
     }
 }
 

@@ -1,15 +1,22 @@
-//! The graphics state: matrix, colour, path, clip, saved copies, and the marks of the page.
+//! The graphics state: matrix, colour, path, clip, line parameters, saved copies, and the marks of
+//! the page.
 //!
-//! Proved against `specs/Graphics.antt` and `specs/Colour.antt` (PostScript Language Reference, third
-//! edition, 4.2 Graphics State). Start with `gfx.rt`, then `matrices.rt` and `paths.rt`.
+//! Proved against `specs/Graphics.antt`, `specs/Colour.antt` and `specs/Lines.antt` (PostScript
+//! Language Reference, third edition, 4.2 Graphics State). Start with `gfx.rt`, then `marks.rt`,
+//! `paths.rt`, `clips.rt` and `lines.rt`.
 //! Coordinates are sub-dots, 1/256 of a dot.
 #![tactic(auto)]
 
+mod clips;
 mod colour;
 #[cfg(test)]
 mod drawn;
 mod gfx;
 mod held;
+mod line_style;
+#[cfg(test)]
+mod lined;
+mod lines;
 mod marks;
 mod matrices;
 mod paths;
@@ -20,3 +27,4 @@ mod worked;
 
 pub use colour::Space;
 pub use gfx::Gfx;
+pub use line_style::DashFault;

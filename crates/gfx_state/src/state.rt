@@ -4,8 +4,10 @@ ghost use Rattle.std.specs.Arc.{arc_value};
 ghost use Rattle.gfx_state.specs.Clipped.{regions_of};
 ghost use Rattle.gfx_state.specs.Graphics.{first_saved, only_first};
 
+use crate::clips::copy_clip;
 use crate::colour::Space;
 use crate::held::HeldPath;
+use crate::line_style::LineStyle;
 use geo_matrix::Matrix;
 use page_model::Clip;
 use press_fault::{Code, Mem};
@@ -23,6 +25,7 @@ pub(crate) struct State {
     pub(crate) path: HeldPath,
     /// `None` where the clip has no regions, so that setting it takes no memory.
     pub(crate) clip: Option<Arc<Clip>>,
+    pub(crate) line: LineStyle,
 }
 
 impl Model for State {
@@ -31,7 +34,7 @@ impl Model for State {
 
     ghost Value = { GraphicsState };
 
-    ghost view = { λ s. record { matrix = s.matrix; space = s.space; code = s.code; path = s.path; clip = regions_of s.clip } };
+    ghost view = { λ s. record { matrix = s.matrix; space = s.space; code = s.code; path = s.path; clip = regions_of s.clip; line = s.line } };
 }
 
 impl State {
@@ -44,7 +47,34 @@ impl State {
             code: self.code,
             path: self.path.copy()?,
             clip: shared(&self.clip)?,
+            line: self.line.copy()?,
         })
+    }
+
+    /// How many regions the clip has.
+    pub(crate) fn regions(&self) -> usize
+        ensures { result ≡ length self.now.clip }
+    {
+        match &self.clip {
+            Some(clip) => clip.items().len(),
+            None => 0,
+        }
+    }
+
+    /// A clip of its own with the same regions.
+    pub(crate) fn clip_copy(&self, alloc: Global) -> Mem<Clip>
+        ensures { IfOk result (λ clip. clip ≡ self.now.clip) }
+    {
+        match &self.clip {
+            Some(clip) => copy_clip(alloc, clip),
+            None => Ok(Clip::new(alloc)),
+        }
+    }
+
+    pub(crate) fn put_clip(&mut self, clip: Arc<Clip>)
+        ensures { self.new ≡ record self.old { clip = arc_value clip } }
+    {
+        self.clip = Some(clip);
     }
 
     /// Another owner of the clip, or of one without regions where there are none.

@@ -1,0 +1,74 @@
+//! The clip: the regions that each mark is cut to.
+ghost use Rattle.std.specs.Prelude.{◌≡◌, ◌↔◌, ◌∷◌, ◌++◌, [], length, Some, None, OnOk, OnErr, IfOk, IsErrOf};
+ghost use Rattle.gfx_state.specs.Graphics.{clipped, with_initial_clip, region_of};
+
+use crate::gfx::Gfx;
+use page_model::{Clip, Region, Ring, Rings, Rule};
+use press_fault::{Grow, Mem};
+use std::alloc::Global;
+use std::sync::Arc;
+
+/// The most regions of a clip.
+const REGIONS: usize = 256;
+
+impl Gfx {
+    /// Cuts the clip to the path, which stays; refused exactly where the clip has 256 regions.
+    ///
+    /// A path without points adds a region without rings, which holds nothing.
+    pub fn clip(&mut self, rule: Rule) -> Result<(), Grow>
+        ensures ok { OnOk result (clipped self.old rule ≡ Some self.new) }
+        ensures limit { IsErrOf result Grow.LimitCheck ↔ (clipped self.old rule ≡ None) }
+        ensures err { OnErr result (self.new ≡ self.old) }
+    {
+        if self.state.regions() >= REGIONS {
+            return Err(Grow::LimitCheck);
+        }
+        let rings = self.path().flatten()?.into_rings(self.alloc)?;
+        let mut clip = self.state.clip_copy(self.alloc)?;
+        clip.push(Region { rule, rings })?;
+        let clip = Arc::new(self.alloc, clip)?;
+        self.state.put_clip(clip);
+        Ok(())
+    }
+
+    /// Sets the whole page as the clip.
+    pub fn initial_clip(&mut self)
+        ensures { self.new ≡ with_initial_clip self.old }
+    {
+        self.state.clip = None;
+    }
+}
+
+/// A clip of its own with the same regions.
+pub(crate) fn copy_clip(alloc: Global, clip: &Clip) -> Mem<Clip>
+    ensures { IfOk result (λ copy. copy ≡ clip.now) }
+{
+    let mut copy = Clip::new(alloc);
+    for region in clip.items() {
+        copy.push(Region {
+            rule: region.rule,
+            rings: copy_rings(alloc, &region.rings)?,
+        })?;
+    }
+    Ok(copy)
+}
+
+fn copy_rings(alloc: Global, rings: &Rings) -> Mem<Rings>
+    ensures { IfOk result (λ copy. copy ≡ rings.now) }
+{
+    let mut copy = Rings::new(alloc);
+    for ring in rings.items() {
+        copy.push(copy_ring(alloc, ring)?)?;
+    }
+    Ok(copy)
+}
+
+fn copy_ring(alloc: Global, ring: &Ring) -> Mem<Ring>
+    ensures { IfOk result (λ copy. copy ≡ ring.now) }
+{
+    let mut copy = Ring::new(alloc);
+    for point in ring.items() {
+        copy.push(*point)?;
+    }
+    Ok(copy)
+}
