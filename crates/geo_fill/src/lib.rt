@@ -1,4 +1,5 @@
-//! Row spans of filled shapes: the columns of a row whose dot centres a shape holds.
+//! Row spans of filled shapes: the columns of a row whose dot centres a shape, or a region of a
+//! clip, holds.
 //!
 //! Proved against `specs/Spans.antt`; when a shape holds a centre is defined with the page
 //! (`page_model/specs/Inside.antt` and `Cover.antt`). Start with `span.rt`, then `row.rt`.
@@ -12,5 +13,5 @@ mod span;
 mod tests;
 
 pub use laws::columns_have_one_list_of_spans;
-pub use row::spans;
+pub use row::{region_spans, spans};
 pub use span::{Span, Spans};

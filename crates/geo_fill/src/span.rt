@@ -1,5 +1,5 @@
 ghost use Rattle.std.specs.Prelude.{◌≡◌, [], ◌∷◌, ◌++◌, OnOk, OnErr};
-ghost use Rattle.geo_fill.specs.Spans.{EndBefore};
+ghost use Rattle.geo_fill.specs.Spans.{AreApart, EndBefore};
 
 use press_fault::Mem;
 use std::alloc::Global;
@@ -72,7 +72,8 @@ impl Spans {
 
     /// The spans, from left to right.
     pub fn items(&self) -> &[Span]
-        ensures { result.now ≡ self.now }
+        ensures value { result.now ≡ self.now }
+        ensures apart { AreApart self.now }
     {
         &self.spans
     }
