@@ -10,6 +10,8 @@ mod pen;
 mod segment;
 mod shapes;
 mod stroke;
+#[cfg(test)]
+mod tests;
 
 pub use pen::{Cap, Dashes, Join, MAX_DASHES, Pen};
 pub use stroke::outline;

@@ -9,5 +9,5 @@ use Rattle.geo_stroke.proofs.line.Segments.of_line.Goals as goal
 pub push_chain-requires-clause-rest : goal.push_chain-requires-clause-rest
 push_chain-requires-clause-rest c =
     let whole : c.args.line.now.points ≡ c.in-Some.first.now ∷ c.in-Some.rest.now =
-        ap (λ (l : LineValue). l.points) (sym c.line.view_is) ∙ (sym c.items.ensures ∙ c.in-Some.ensures.cases.0) in
+    ap (λ (l : LineValue). l.points) (sym c.line.view_is) ∙ (sym c.items.ensures ∙ c.in-Some.ensures.cases.0) in
     All-tail IsNear c.in-Some.first.now c.in-Some.rest.now (subst (λ (p : List Spot). All IsNear p) whole c.requires)
