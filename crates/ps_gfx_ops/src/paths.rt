@@ -109,10 +109,10 @@ pub(crate) fn rlineto(stack: &mut Stack, gfx: &mut Gfx) -> Result<(), OpFault>
     let Some(at) = gfx.path().current() else {
         return Err(OpFault::Ps(PsName::NoCurrentPoint));
     };
-    let Ok(step) = by_dots(&gfx.matrix(), u.x, u.y) else {
+    let Ok(offset) = by_dots(&gfx.matrix(), u.x, u.y) else {
         return Err(OpFault::Ps(PsName::LimitCheck));
     };
-    match gfx.line_to(stepped(at, step)) {
+    match gfx.line_to(stepped(at, offset)) {
         Ok(()) => {
             stack.drop_top(2);
             Ok(())
