@@ -66,6 +66,7 @@ pub(crate) fn currentmatrix(stack: &mut Stack, store: &mut Store, gfx: &Gfx) -> 
 }
 
 /// Writes the elements of a matrix from the start of an array.
+#[tactic(auto, unfolding(ps_store::specs::Gathering::with_elements))]
 fn put_matrix(store: &mut Store, span: Span, m: &Matrix)
     ensures { store.new ≡ with_elements store.old span 0 (elements_of m.now) }
 {

@@ -486,16 +486,12 @@ mod tests {
             ("pop", 0),
             ("<<", 10),
             ("bitshift", 40),
-            ("true", 41),
             (">>", 48),
-            ("type", 69),
             ("stopped", 79),
             ("quit", 80),
             ("readhexstring", 84),
             ("gsave", 85),
-            ("currentgray", 95),
             ("eofill", 124),
-            ("rectfill", 128),
             ("erasepage", 135),
         ];
         for (name, number) in cases {
