@@ -1,3 +1,4 @@
 mod Catching
 mod Filled
 pub mod Few
+pub mod Going

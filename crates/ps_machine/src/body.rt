@@ -140,7 +140,7 @@ impl Body {
             Some(Obj::Name(name, true)) => match self.dicts.find_name(&self.store, name) {
                 Some(Obj::Oper(op)) => {
                     let op = *op;
-                    self.operate(end, op)
+                    self.operate_named(end, place, op)
                 }
                 found => {
                     let (name, found) = (*name, found.copied());
@@ -152,6 +152,14 @@ impl Body {
                 self.execute(end, &o)
             }
         }
+    }
+
+    /// Does the operator that a name at a place of the store leads to.
+    fn operate_named(&mut self, end: &mut End, place: Span, op: Oper) -> Mem<Turn>
+        requires { execute (element self.old.store place 0) self.old ≡ operate op self.old }
+        ensures { IfOk result (λ turn. execute (element self.old.store place 0) self.old ≡ step_of turn self.new end.new) }
+    {
+        self.operate(end, op)
     }
 
     fn execute_name(&mut self, end: &mut End, name: &Name) -> Mem<Turn>

@@ -86,7 +86,7 @@ fn end_of(event: &Event) -> Option<End>
 }
 
 /// Runs to the next page, or to the end.
-#[tactic(auto, unfolding(crate::specs::Meaning::run))]
+#[tactic(auto, using(crate::proofs::Going::a_page_comes), unfolding(crate::specs::Meaning::run))]
 fn run_on(body: &mut Body, left: &mut u64) -> Mem<Event>
     ensures comes { IfOk result (λ event. Comes event (run left.old body.old) (run left.new body.new)) }
     ensures plain { IfOk result GoesByNoSource }
