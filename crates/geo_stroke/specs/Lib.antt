@@ -1,1 +1,4 @@
 pub mod Pen
+pub mod Segment
+pub mod Corner
+pub mod Outline

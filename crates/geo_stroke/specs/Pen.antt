@@ -1,8 +1,8 @@
 -- Pens of strokes (PostScript Language Reference, third edition, 8.2 `setlinewidth`, `setlinecap`,
 -- `setlinejoin`, `setmiterlimit`, `setdash`). Own rule: a pen is round and its half width a whole
 -- number of sub-dots, 1/256 of a dot; lengths of dashes count 1/65536 of a dot.
-use Rattle.std.specs.Prelude.{ℕ, zero, suc, ◌≤◌, ◌<◌, ◌^◌, ℤ, pos, negsuc, ◌≤ℤ◌, ◌<ℤ◌, unsigned_abs, List, length, Option, Some, None}
-use Rattle.std.specs.List.{All}
+use Rattle.std.specs.Prelude.{ℕ, ◌==◌, Bool, zero, suc, ◌≤◌, ◌<◌, ◌^◌, ℤ, pos, negsuc, ◌≤ℤ◌, ◌<ℤ◌, unsigned_abs, List, length, Option, Some, None}
+use Rattle.std.specs.List.{All, list_all}
 use Rattle.geo_stroke.specs.declared.pen.Cap.{Cap}
 use Rattle.geo_stroke.specs.declared.pen.Cap.TheVariants as cap
 use Rattle.geo_stroke.specs.declared.pen.Join.{Join}
@@ -32,6 +32,10 @@ IsDash dash = dash < 2 ^ 62
 pub record IsPattern (dashes : List ℕ) : Type 0 where
   pub few : length dashes ≤ 32
   pub short : All IsDash dashes
+
+-- whether a line is solid: there are no dashes and gaps, or each is 0
+abbrev pub is_solid : List ℕ → Bool
+is_solid dashes = list_all (λ dash. dash == 0) dashes
 
 -- what a line is painted with: half its width in sub-dots, its ends and corners, the miter limit by
 -- its raw value, the dashes and gaps in turn, and how far along the pattern each line begins

@@ -4,6 +4,14 @@
 //! Start with `pen.rt`. Coordinates are sub-dots, 1/256 of a dot; y grows down the page.
 #![tactic(auto)]
 
+mod corner;
+mod line;
 mod pen;
+mod segment;
+mod shapes;
+mod stroke;
+#[cfg(test)]
+mod tests;
 
 pub use pen::{Cap, Dashes, Join, MAX_DASHES, Pen};
+pub use stroke::outline;

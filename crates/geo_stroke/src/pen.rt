@@ -1,6 +1,6 @@
 //! The pen of a stroke: its width, caps, joins, miter limit and dashes.
 ghost use Rattle.std.specs.Prelude.{◌≡◌, ◌≤◌, ◌<◌, ◌^◌, ℤ, pos, [], ◌∷◌, ◌++◌, length, OnOk, OnErr, IsErrOf, ◌↔◌, ◌≤ℤ◌, unsigned_abs};
-ghost use Rattle.geo_stroke.specs.Pen.{cap_of, join_of, IsDash, IsPattern, IsPen};
+ghost use Rattle.geo_stroke.specs.Pen.{cap_of, join_of, is_solid, IsDash, IsPattern, IsPen};
 
 use press_fault::Grow;
 use press_nums::{Fix, Whole, Wide};
@@ -102,6 +102,13 @@ impl Dashes {
         Ok(())
     }
 
+    /// Whether each length is 0, also where there are none.
+    pub fn are_nothing(&self) -> bool
+        ensures { result ≡ is_solid self.now }
+    {
+        self.lengths.iter().all(|dash| *dash == 0)
+    }
+
     /// The lengths, in order.
     pub fn items(&self) -> &[u64]
         ensures value { result.now ≡ self.now }
@@ -139,6 +146,13 @@ impl Model for Pen {
 }
 
 impl Pen {
+    /// Whether it paints solid lines: it has no dashes and gaps, or each is 0.
+    pub fn is_solid(&self) -> bool
+        ensures { result ≡ is_solid self.now.dashes }
+    {
+        self.dashes.are_nothing()
+    }
+
     /// Half the line's width in sub-dots, for sums and products.
     pub fn wide_half(&self) -> Wide
         ensures value { result ≡ self.now.half }

@@ -1,0 +1,361 @@
+//! Cases by hand, with values from the rules.
+
+use super::*;
+use geo_path::{Lines, Path, PathFault};
+use page_model::{Shape, Shapes};
+use press_fault::Point;
+use press_nums::{Fix, Whole};
+use std::alloc::{AllocError, Global};
+use std::test::Fail;
+
+/// A place by its letter: `a` is 0, and each next one is a dot further.
+fn place(letter: u8) -> i32 {
+    256 * (i32::from(letter) - 97)
+}
+
+/// Lines through points of two letters each; `!` closes one, `|` starts another.
+fn drawn(alloc: Global, letters: &str) -> Result<Lines, PathFault> {
+    let mut path = Path::new(alloc);
+    let mut column: Option<u8> = None;
+    let mut is_move = true;
+    for letter in letters.as_bytes() {
+        match *letter {
+            b' ' => {}
+            b'!' => path.close(),
+            b'|' => is_move = true,
+            letter => match column {
+                None => column = Some(letter),
+                Some(x) => {
+                    add(&mut path, is_move, place(x), place(letter))?;
+                    is_move = false;
+                    column = None;
+                }
+            },
+        }
+    }
+    Ok(path.flatten()?)
+}
+
+/// Moves or draws to a point.
+fn add(path: &mut Path, is_move: bool, x: i32, y: i32) -> Result<(), PathFault> {
+    let point = Point::new(i64::from(x), i64::from(y));
+    if is_move {
+        path.move_to(point)
+    } else {
+        path.line_to(point)
+    }
+}
+
+/// A line from (0, 0) through two points, in sub-dots.
+fn corner(alloc: Global, x: i32, y: i32, end_x: i32, end_y: i32) -> Result<Lines, PathFault> {
+    let mut path = Path::new(alloc);
+    add(&mut path, true, 0, 0)?;
+    add(&mut path, false, x, y)?;
+    add(&mut path, false, end_x, end_y)?;
+    Ok(path.flatten()?)
+}
+
+/// A pen of half a width with the cap and the join of these numbers, and a miter limit.
+fn pen(alloc: Global, half: u32, cap: i32, join: i32, miter: i64) -> Result<Pen, &'static str> {
+    let cap = Cap::of(Whole::of(cap)).ok_or("no cap")?;
+    let join = Join::of(Whole::of(join)).ok_or("no join")?;
+    let miter = Fix::of_raw(miter).ok_or("no limit")?;
+    if miter.raw() < 65536 || half < 128 || half > 1073741824 {
+        return Err("too little");
+    }
+    Ok(Pen {
+        half: i64::from(half),
+        cap,
+        join,
+        miter,
+        dashes: Dashes::new(alloc),
+        offset: 0,
+    })
+}
+
+/// Adds a point to a text.
+fn put_point(alloc: Global, text: &mut String, x: i64, y: i64) -> Result<(), AllocError> {
+    text.push_str(format!(in alloc; "{x},{y} ")?.as_str())
+}
+
+/// The points of polygons, and the centres and radii of discs, in order.
+fn shown(alloc: Global, shapes: &Shapes) -> Result<String, AllocError> {
+    let mut text = String::new(alloc);
+    for shape in shapes.items() {
+        match shape {
+            Shape::Poly(rings) => {
+                for ring in rings.items() {
+                    for point in ring.items() {
+                        put_point(alloc, &mut text, point.x, point.y)?;
+                    }
+                }
+            }
+            Shape::Disc(disc) => {
+                put_point(alloc, &mut text, disc.x, disc.y)?;
+                text.push_str(format!(in alloc; "r{} ", disc.r)?.as_str())?;
+            }
+        }
+        text.push_str("; ")?;
+    }
+    Ok(text)
+}
+
+/// What a pen paints along lines.
+fn outlined(alloc: Global, lines: &Lines, pen: &Pen) -> Result<String, Fail> {
+    if !pen.is_solid() {
+        Err("dashes")?;
+    }
+    let shapes = outline(alloc, lines, pen).ok().ok_or("refused")?;
+    Ok(shown(alloc, &shapes)?)
+}
+
+/// What a solid pen two dots wide with a miter limit of 10 paints.
+fn stroked(alloc: Global, cap: i32, join: i32, letters: &str) -> Result<String, Fail> {
+    let pen = pen(alloc, 256, cap, join, 655360)?;
+    outlined(alloc, &drawn(alloc, letters)?, &pen)
+}
+
+#[test]
+fn segments_are_as_wide_as_the_line(rt: HostRuntime) -> Result<(), Fail> {
+    // name, points, the shapes under butt caps and bevels
+    let cases = [
+        (
+            "to the right",
+            "aa ea",
+            "0,256 1024,256 1024,-256 0,-256 ; ",
+        ),
+        ("to the left", "ea aa", "1024,-256 0,-256 0,256 1024,256 ; "),
+        ("down", "aa ae", "-256,0 -256,1024 256,1024 256,0 ; "),
+        (
+            "three to four",
+            "aa mq",
+            "-205,154 2867,4250 3277,3942 205,-154 ; ",
+        ),
+        ("aslant", "aa ee", "-181,181 843,1205 1205,843 181,-181 ; "),
+        (
+            "points twice",
+            "aa aa ea ea ea",
+            "0,256 1024,256 1024,-256 0,-256 ; ",
+        ),
+        (
+            "two lines",
+            "aa ea | aa ae",
+            "0,256 1024,256 1024,-256 0,-256 ; -256,0 -256,1024 256,1024 256,0 ; ",
+        ),
+        (
+            "there and back, closed",
+            "aa ea !",
+            "0,256 1024,256 1024,-256 0,-256 ; 1024,-256 0,-256 0,256 1024,256 ; ",
+        ),
+        (
+            "drawn back to its start and closed",
+            "aa ea aa !",
+            "0,256 1024,256 1024,-256 0,-256 ; 1024,-256 0,-256 0,256 1024,256 ; ",
+        ),
+    ];
+    for (name, letters, shapes) in cases {
+        assert_eq!(rt;
+            stroked(rt.alloc(), 0, 2, letters)?.as_str(),
+            shapes,
+            "{name}"
+        );
+    }
+    Ok(())
+}
+
+#[test]
+fn open_lines_have_caps(rt: HostRuntime) -> Result<(), Fail> {
+    let body = "0,256 1024,256 1024,-256 0,-256 ; ";
+    // name, cap, points, the shapes behind the body
+    let cases = [
+        ("butt", 0, ""),
+        ("round", 1, "1024,0 r256 ; 0,0 r256 ; "),
+        (
+            "square",
+            2,
+            "1024,256 1280,256 1280,-256 1024,-256 ; 0,256 -256,256 -256,-256 0,-256 ; ",
+        ),
+    ];
+    for (name, cap, caps) in cases {
+        let shapes = stroked(rt.alloc(), cap, 0, "aa ea")?;
+        assert_eq!(rt; shapes.as_str().strip_prefix(body), Some(caps), "{name}");
+    }
+    Ok(())
+}
+
+#[test]
+fn points_alone_are_discs_under_round_caps(rt: HostRuntime) -> Result<(), Fail> {
+    // name, cap, points, the shapes
+    let cases = [
+        ("a move, butt", 0, "ab", ""),
+        ("a move, round", 1, "ab", ""),
+        ("a line to itself, butt", 0, "ab ab", ""),
+        ("a line to itself, round", 1, "ab ab", "0,256 r256 ; "),
+        ("a line to itself, square", 2, "ab ab", ""),
+        ("a move, closed, butt", 0, "ab !", ""),
+        ("a move, closed, round", 1, "ab !", "0,256 r256 ; "),
+        ("lines to itself, closed", 1, "ab ab ab !", "0,256 r256 ; "),
+        ("a closed move and a move", 1, "ab ! | ac", "0,256 r256 ; "),
+    ];
+    for (name, cap, letters, shapes) in cases {
+        assert_eq!(rt;
+            stroked(rt.alloc(), cap, 0, letters)?.as_str(),
+            shapes,
+            "{name}"
+        );
+    }
+    Ok(())
+}
+
+#[test]
+fn corners_have_joins(rt: HostRuntime) -> Result<(), Fail> {
+    // name, join, points, the bodies, the shapes of the joins
+    let cases = [
+        ("round at a right angle", 1, "aa ea ee", 2, "1024,0 r256 ; "),
+        ("round straight on", 1, "aa ea ia", 2, "1024,0 r256 ; "),
+        (
+            "round, closed",
+            1,
+            "aa ea !",
+            2,
+            "1024,0 r256 ; 0,0 r256 ; ",
+        ),
+        (
+            "bevel to the right",
+            2,
+            "aa ea ee",
+            2,
+            "1024,0 1024,-256 1280,0 ; ",
+        ),
+        (
+            "bevel to the left",
+            2,
+            "ae ee ea",
+            2,
+            "1024,1024 1024,1280 1280,1024 ; ",
+        ),
+        ("bevel straight on", 2, "aa ea ia", 2, ""),
+        ("miter straight back", 0, "aa ea aa", 2, ""),
+        (
+            "miter at a right angle",
+            0,
+            "aa ea ee",
+            2,
+            "1024,0 1024,-256 1280,-256 1280,0 ; ",
+        ),
+        (
+            "miter at a sharp angle",
+            0,
+            "aa ia ab",
+            2,
+            "2048,0 2048,-256 2080,254 ; ",
+        ),
+    ];
+    for (name, join, letters, bodies, joins) in cases {
+        let shapes = stroked(rt.alloc(), 0, join, letters)?;
+        assert_eq!(rt; behind(shapes.as_str(), bodies), Some(joins), "{name}");
+    }
+    Ok(())
+}
+
+/// The text behind so many shapes.
+fn behind(text: &str, shapes: u8) -> Option<&str> {
+    let mut rest = text;
+    for _ in 0..shapes {
+        rest = rest.split_once("; ")?.1;
+    }
+    Some(rest)
+}
+
+#[test]
+fn closed_lines_have_joins_all_round(rt: HostRuntime) -> Result<(), Fail> {
+    let shapes = stroked(rt.alloc(), 1, 0, "aa ea ee !")?;
+    assert_eq!(rt;
+        behind(shapes.as_str(), 3),
+        Some(
+            "1024,0 1024,-256 1280,-256 1280,0 ; 1024,1024 1280,1024 1280,1642 843,1205 ; 0,0 -181,181 -618,-256 0,-256 ; "
+        )
+    );
+    Ok(())
+}
+
+/// What a solid pen with miters paints at the corner of a line from (0, 0) through two points.
+fn mitered(alloc: Global, pen: &Pen, x: i32, y: i32, end: (i32, i32)) -> Result<String, Fail> {
+    let text = outlined(alloc, &corner(alloc, x, y, end.0, end.1)?, pen)?;
+    let join = behind(text.as_str(), 2).ok_or("no bodies")?;
+    Ok(String::from_str(alloc, join)?)
+}
+
+#[test]
+fn miters_stand_within_the_limit(rt: HostRuntime) -> Result<(), Fail> {
+    let miter = "2560,0 2560,-256 2752,-256 2806,-72 ; ";
+    let bevel = "2560,0 2560,-256 2806,-72 ; ";
+    // name, half a width, raw limit, the corner, the end of the line, the shapes
+    let cases = [
+        ("below the limit", 256, 655360, 2560, 0, (4352, 6144), miter),
+        (
+            "at the limit of 5/4",
+            256,
+            81920,
+            2560,
+            0,
+            (4352, 6144),
+            miter,
+        ),
+        ("past the limit", 256, 81919, 2560, 0, (4352, 6144), bevel),
+        (
+            "the least limit of a right angle",
+            256,
+            92682,
+            1024,
+            0,
+            (1024, 1024),
+            "1024,0 1024,-256 1280,-256 1280,0 ; ",
+        ),
+        (
+            "one less",
+            256,
+            92681,
+            1024,
+            0,
+            (1024, 1024),
+            "1024,0 1024,-256 1280,0 ; ",
+        ),
+        (
+            "a limit of 2^24 counts as 1024",
+            67108864,
+            1099511627776,
+            5000000,
+            0,
+            (0, 8000),
+            "5000000,0 5000000,-67108864 5107374,67108778 ; ",
+        ),
+        (
+            "sides that meet behind the corner",
+            128,
+            67108864,
+            256,
+            1,
+            (0, 2),
+            "256,1 256,-127 256,129 ; ",
+        ),
+        (
+            "sides that meet too far away",
+            2560,
+            67108864,
+            1879,
+            1,
+            (0, 8),
+            "1879,1 1880,-2559 1889,2561 ; ",
+        ),
+    ];
+    for (name, half, limit, x, y, end, shapes) in cases {
+        let pen = pen(rt.alloc(), half, 0, 0, limit)?;
+        assert_eq!(rt;
+            mitered(rt.alloc(), &pen, x, y, end)?.as_str(),
+            shapes,
+            "{name}"
+        );
+    }
+    Ok(())
+}
