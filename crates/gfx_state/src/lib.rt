@@ -20,6 +20,7 @@ mod lines;
 mod marks;
 mod matrices;
 mod paths;
+mod pen;
 mod points;
 mod state;
 #[cfg(test)]
