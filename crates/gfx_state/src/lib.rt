@@ -24,6 +24,8 @@ mod pen;
 mod points;
 mod state;
 #[cfg(test)]
+mod stroked;
+#[cfg(test)]
 mod worked;
 
 pub use colour::Space;
