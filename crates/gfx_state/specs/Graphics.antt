@@ -15,13 +15,15 @@ use Rattle.page_model.specs.Marking.{Marking, Flatly}
 use Rattle.page_model.specs.Page.{Sheet}
 use Rattle.page_model.specs.declared.shape.Rule.{Rule}
 use Rattle.page_model.specs.declared.shape.Region.{Region}
+use Rattle.page_model.specs.declared.shape.Rule.TheVariants.{Nonzero}
+use Rattle.page_model.specs.declared.shape.Shape.{Shape}
 use Rattle.page_model.specs.declared.shape.Shape.TheVariants.{Poly}
 use Rattle.page_model.specs.declared.mark.Ink.TheVariants.{Plain}
 use Rattle.gfx_state.specs.declared.colour.Space.{Space}
 use Rattle.gfx_state.specs.declared.colour.Space.TheVariants.{Gray}
 use Rattle.gfx_state.specs.Colour.{codes_of, first_colour}
 use Rattle.gfx_state.specs.Lines.{LineParameters, initial_line}
-use Rattle.gfx_state.specs.Points.{ring_points, mark_points}
+use Rattle.gfx_state.specs.Points.{ring_points, all_points, mark_points}
 
 -- a page's size in dots, and the dots of an inch
 pub record PageSize : Type 0 where
@@ -196,9 +198,13 @@ back_to_first g (Some state) = record g { state = state; saved = only_first g.sa
 abbrev pub all_restored : Graphics → Graphics
 all_restored g = back_to_first g (first_saved g.saved)
 
--- a mark of rings in the current colour, cut by the current clip
+-- a mark of shapes in the current colour, cut by the current clip
+abbrev pub mark_with : GraphicsState → Rule → List Shape → Marking
+mark_with state rule shapes = record { rule = rule; shapes = shapes; clip = state.clip; paint = Flatly (Plain state.code) }
+
+-- a mark of rings: one polygon
 abbrev pub mark_of : GraphicsState → Rule → List (List Spot) → Marking
-mark_of state rule rings = record { rule = rule; shapes = Poly rings ∷ []; clip = state.clip; paint = Flatly (Plain state.code) }
+mark_of state rule rings = mark_with state rule (Poly rings ∷ [])
 
 -- whether a page has room for one more mark of so many points
 abbrev pub has_room : Graphics → ℕ → Bool
@@ -217,6 +223,14 @@ filled g rule =
     if nat_lt 0 (count_of g.state.path)
     then option_map (λ page. with_path page no_path) (painted g rule (rings_of (lines_of g.state.path)))
     else Some (with_path g no_path)
+
+-- the page with a mark of the shapes of a stroke, if there are any, where it has room
+abbrev pub inked : Graphics → List Shape → Option Graphics
+inked g [] = Some g
+inked g (shape ∷ rest) =
+    if has_room g (all_points (shape ∷ rest))
+    then Some (record g { marks = g.marks ++ mark_with g.state Nonzero (shape ∷ rest) ∷ [] })
+    else None
 
 -- the page as it is given
 abbrev pub page_of : Graphics → Sheet

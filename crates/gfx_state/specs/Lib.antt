@@ -1,5 +1,6 @@
 pub mod Colour
 pub mod Lines
+pub mod Stroke
 pub mod Clipped
 pub mod Held
 pub mod Points

@@ -14,6 +14,10 @@ abbrev pub shape_points : Shape → ℕ
 shape_points (Poly rings) = ring_points rings
 shape_points (Disc disc) = 1
 
+-- the points of shapes
+abbrev pub all_points : List Shape → ℕ
+all_points shapes = sum_by shape_points shapes
+
 -- the points of all shapes of all marks
 abbrev pub mark_points : List Marking → ℕ
-mark_points marks = sum_by (λ mark. sum_by shape_points mark.shapes) marks
+mark_points marks = sum_by (λ mark. all_points mark.shapes) marks

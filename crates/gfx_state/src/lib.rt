@@ -20,8 +20,11 @@ mod lines;
 mod marks;
 mod matrices;
 mod paths;
+mod pen;
 mod points;
 mod state;
+#[cfg(test)]
+mod stroked;
 #[cfg(test)]
 mod worked;
 

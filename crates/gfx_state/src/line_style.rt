@@ -108,6 +108,17 @@ impl LineStyle {
         }
     }
 
+    /// The lengths of dashes and gaps; none for a solid line.
+    pub(crate) fn lengths(&self) -> &[Fix]
+        ensures value { result.now ≡ self.now.dashes }
+        ensures kept { IsDashArray result.now }
+    {
+        match &self.dashes {
+            Some(dashes) => dashes.items(),
+            None => &[],
+        }
+    }
+
     pub(crate) fn copy(&self) -> Mem<LineStyle>
         ensures { IfOk result (λ copy. copy ≡ self.now) }
     {

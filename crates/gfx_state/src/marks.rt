@@ -1,15 +1,14 @@
 //! Marks that are added to the page.
-ghost use Rattle.std.specs.Prelude.{◌≡◌, ◌↔◌, true, Some, None, OnOk, OnErr, IfOk, IsErrOf, []};
+ghost use Rattle.std.specs.Prelude.{◌≡◌, ◌↔◌, ◌∷◌, ◌++◌, true, Some, None, OnOk, OnErr, IfOk, IsErrOf, []};
 ghost use Rattle.std.specs.Arc.{arc_value};
-ghost use Rattle.gfx_state.specs.Graphics.{has_room, painted, filled, mark_of};
-ghost use Rattle.gfx_state.specs.Points.{ring_points};
+ghost use Rattle.gfx_state.specs.Graphics.{has_room, painted, filled, inked, mark_with};
+ghost use Rattle.gfx_state.specs.Points.{ring_points, all_points};
 
 use crate::gfx::Gfx;
-use crate::points::points_up_to;
+use crate::points::{points_up_to, shape_points_up_to};
 use crate::state::State;
 use page_model::{Clip, Ink, Mark, Paint, Rings, Rule, Shape, Shapes};
 use press_fault::{Grow, Mem};
-use std::alloc::Global;
 use std::sync::Arc;
 
 /// The most marks of a page.
@@ -64,6 +63,26 @@ impl Gfx {
         self.marks.items().len() < MARKS && points <= POINTS - self.points
     }
 
+    /// Adds a mark of the shapes of a stroke, if there are any, refused exactly where the page has no
+    /// room for it.
+    pub(crate) fn ink(&mut self, shapes: Shapes) -> Result<(), Grow>
+        ensures ok { OnOk result (inked self.old shapes ≡ Some self.new) }
+        ensures limit { IsErrOf result Grow.LimitCheck ↔ (inked self.old shapes ≡ None) }
+        ensures err { OnErr result (self.new ≡ self.old) }
+    {
+        if shapes.items().is_empty() {
+            return Ok(());
+        }
+        let Some(points) = shape_points_up_to(&shapes, POINTS) else {
+            return Err(Grow::LimitCheck);
+        };
+        if !self.has_room(points) {
+            return Err(Grow::LimitCheck);
+        }
+        self.add_shapes(Rule::Nonzero, shapes, points)?;
+        Ok(())
+    }
+
     /// Adds a mark of rings of so many points, for which there is room.
     fn add_mark(&mut self, rule: Rule, rings: Rings, points: u64) -> Mem<()>
         requires points { points ≡ ring_points rings }
@@ -71,26 +90,30 @@ impl Gfx {
         ensures ok { OnOk result (painted self.old rule rings ≡ Some self.new) }
         ensures err { OnErr result (self.new ≡ self.old) }
     {
-        let mark = flat_mark(self.alloc, rule, rings, &self.state, &self.no_clip)?;
+        let mut shapes = Shapes::new(self.alloc);
+        shapes.push(Shape::Poly(rings))?;
+        self.add_shapes(rule, shapes, points)
+    }
+
+    /// Adds a mark of shapes of so many points, for which there is room.
+    fn add_shapes(&mut self, rule: Rule, shapes: Shapes, points: u64) -> Mem<()>
+        requires points { points ≡ all_points shapes }
+        requires room { has_room self.old points ≡ true }
+        ensures ok { OnOk result (self.new ≡ record self.old { marks = self.old.marks ++ mark_with self.old.state rule shapes ∷ [] }) }
+        ensures err { OnErr result (self.new ≡ self.old) }
+    {
+        let mark = flat_mark(rule, shapes, &self.state, &self.no_clip)?;
         self.marks.push(mark)?;
         self.points += points;
         Ok(())
     }
 }
 
-/// A mark of rings in a state's colour, cut by its clip.
-fn flat_mark(
-    alloc: Global,
-    rule: Rule,
-    rings: Rings,
-    state: &State,
-    no_clip: &Arc<Clip>,
-) -> Mem<Mark>
+/// A mark of shapes in a state's colour, cut by its clip.
+fn flat_mark(rule: Rule, shapes: Shapes, state: &State, no_clip: &Arc<Clip>) -> Mem<Mark>
     requires { arc_value no_clip.now ≡ [] }
-    ensures { IfOk result (λ mark. mark ≡ mark_of state.now rule rings) }
+    ensures { IfOk result (λ mark. mark ≡ mark_with state.now rule shapes) }
 {
-    let mut shapes = Shapes::new(alloc);
-    shapes.push(Shape::Poly(rings))?;
     Ok(Mark {
         rule,
         shapes,
