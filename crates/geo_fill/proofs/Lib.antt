@@ -1,2 +1,5 @@
 pub mod Apart
 pub mod Swept
+pub mod Halving
+pub mod Counting
+pub mod Adding

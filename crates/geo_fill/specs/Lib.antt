@@ -1,2 +1,4 @@
 pub mod Spans
 pub mod Sweep
+pub mod Crossings
+pub mod Steps

@@ -1,5 +1,5 @@
--- What the plain way through a row keeps: finished spans, and the first column of one that has begun.
-use Rattle.std.specs.Prelude.{◌≡◌, ℕ, ◌+◌, ◌<◌, ◌==◌, Bool, ◌&&◌, ◌||◌, List, Option, Some, None}
+-- What the way through a row keeps: finished spans, and the first column of one that has begun.
+use Rattle.std.specs.Prelude.{◌≡◌, ℕ, ◌<◌, Bool, ◌&&◌, ◌||◌, List, Option, Some, None}
 use Rattle.geo_fill.specs.Spans.{Interval, is_in, have_column, EndBefore}
 
 -- the finished spans end before this column, or before one that has begun, before it
@@ -12,10 +12,10 @@ abbrev pub has_so_far : ℕ → List Interval → Option ℕ → ℕ → Bool
 has_so_far col spans None c = have_column spans c
 has_so_far col spans (Some first) c = have_column spans c || is_in first col c
 
--- one more column was taken, and it was covered or not
-pub record IsTaken (col : ℕ) (covered : Bool) (old : List Interval) (begun_before : Option ℕ) (new : List Interval) (begun_now : Option ℕ) : Type 0 where
-  pub before : AreBefore (col + 1) new begun_now
-  pub columns : (c : ℕ) → has_so_far (col + 1) new begun_now c ≡ (has_so_far col old begun_before c || (c == col && covered))
+-- the columns from one up to and without another were taken too: all of them covered, or none
+pub record AreTaken (from to : ℕ) (covered : Bool) (old : List Interval) (begun_before : Option ℕ) (new : List Interval) (begun_now : Option ℕ) : Type 0 where
+  pub before : AreBefore to new begun_now
+  pub columns : (c : ℕ) → has_so_far to new begun_now c ≡ (has_so_far from old begun_before c || (is_in from to c && covered))
 
 -- the columns from one up to and without another were taken
 pub record IsSwept (from col : ℕ) (holds : ℕ → Bool) (spans : List Interval) (begun : Option ℕ) : Type 0 where

@@ -2,10 +2,12 @@
 //! clip, holds.
 //!
 //! Proved against `specs/Spans.antt`; when a shape holds a centre is defined with the page
-//! (`page_model/specs/Inside.antt` and `Cover.antt`). Start with `span.rt`, then `row.rt`.
+//! (`page_model/specs/Inside.antt` and `Cover.antt`). Start with `span.rt`, then `row.rt`
+//! and `crossing.rt`.
 //! Rows and columns count dots.
 #![tactic(auto)]
 
+mod crossing;
 mod laws;
 mod row;
 mod span;

@@ -1,9 +1,11 @@
 ghost use Rattle.std.specs.Prelude.{◌≡◌, [], ◌∷◌, ◌++◌, OnOk, OnErr};
 ghost use Rattle.geo_fill.specs.Spans.{AreApart, EndBefore};
 
+use crate::crossing::Crossing;
 use press_fault::Mem;
 use std::alloc::Global;
 use std::marker::Model;
+use std::mem;
 
 /// The columns from `first` up to and without `end` of one row. A span is never empty.
 #[derive(Clone, Copy, Debug, PartialEq, Eq)]
@@ -28,7 +30,10 @@ impl Model for Span {
 /// Spans of one row: they rise, and leave a gap between each and the next.
 #[derive(Drop)]
 pub struct Spans {
+    alloc: Global,
     spans: Vec<Span>,
+    /// Room for the crossings of a row, kept from one row to the next.
+    crossings: Vec<Crossing>,
 }
 
 impl Model for Spans {
@@ -48,7 +53,9 @@ impl Spans {
         ensures { result ≡ [] }
     {
         Spans {
+            alloc,
             spans: Vec::new(alloc),
+            crossings: Vec::new(alloc),
         }
     }
 
@@ -76,5 +83,22 @@ impl Spans {
         ensures apart { AreApart self.now }
     {
         &self.spans
+    }
+
+    /// Room for the crossings of a row. The spans stay.
+    pub(crate) fn take_room(&mut self) -> Vec<Crossing>
+        ensures room { result.items ≡ [] }
+        ensures same { self.new ≡ self.old }
+    {
+        let mut room = mem::replace(&mut self.crossings, Vec::new(self.alloc));
+        room.clear();
+        room
+    }
+
+    /// Gives the room back, for the next row.
+    pub(crate) fn keep_room(&mut self, room: Vec<Crossing>)
+        ensures { self.new ≡ self.old }
+    {
+        self.crossings = room;
     }
 }

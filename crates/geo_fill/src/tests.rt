@@ -2,7 +2,7 @@
 ghost use Rattle.std.specs.Prelude.{◌≤◌};
 
 use super::*;
-use page_model::{Disc, Ring, Rings, Rule, Shape};
+use page_model::{Disc, Region, Ring, Rings, Rule, Shape};
 use press_fault::{Mem, Point};
 use std::alloc::Global;
 use std::test::Fail;
@@ -210,6 +210,110 @@ fn a_disc_has_a_span_in_each_of_its_rows(rt: HostRuntime) -> Result<(), Fail> {
     for (row, expected) in cases {
         let pairs = found(rt.alloc(), &disc, Rule::EvenOdd, row, 0, 4)?;
         assert_eq!(rt; pairs.as_slice(), expected, "row {row}");
+    }
+    Ok(())
+}
+
+/// A polygon of two rectangles that are a dot high; sides are in sub-dots.
+fn two(alloc: Global, first: (u16, u16), second: (u16, u16)) -> Mem<Shape> {
+    let corners = |(left, right): (u16, u16)| [(left, 256), (right, 256), (right, 0), (left, 0)];
+    polygon(alloc, &corners(first), &corners(second))
+}
+
+#[test]
+fn crossings_at_one_column_leave_no_gap(rt: HostRuntime) -> Result<(), Fail> {
+    let (nonzero, even_odd) = (Rule::Nonzero, Rule::EvenOdd);
+    let cases = [
+        (
+            "side by side",
+            (0, 512),
+            (512, 1024),
+            nonzero,
+            [(0, 4)].as_slice(),
+        ),
+        (
+            "the right one first",
+            (512, 1024),
+            (0, 512),
+            nonzero,
+            &[(0, 4)],
+        ),
+        (
+            "going round two ways",
+            (0, 512),
+            (1024, 512),
+            nonzero,
+            &[(0, 4)],
+        ),
+        (
+            "side by side, even-odd",
+            (0, 512),
+            (512, 1024),
+            even_odd,
+            &[(0, 4)],
+        ),
+        (
+            "a dot apart",
+            (0, 256),
+            (512, 768),
+            nonzero,
+            &[(0, 1), (2, 3)],
+        ),
+        (
+            "less apart, round a centre",
+            (0, 384),
+            (400, 768),
+            nonzero,
+            &[(0, 1), (2, 3)],
+        ),
+        (
+            "less apart, between centres",
+            (0, 385),
+            (400, 768),
+            nonzero,
+            &[(0, 3)],
+        ),
+        (
+            "one over the other",
+            (0, 768),
+            (256, 1024),
+            nonzero,
+            &[(0, 4)],
+        ),
+        (
+            "one over the other, even-odd",
+            (0, 768),
+            (256, 1024),
+            even_odd,
+            &[(0, 1), (3, 4)],
+        ),
+    ];
+    for (name, first, second, rule, expected) in cases {
+        let shape = two(rt.alloc(), first, second)?;
+        let pairs = found(rt.alloc(), &shape, rule, 0, 0, 6)?;
+        assert_eq!(rt; pairs.as_slice(), expected, "{name}");
+    }
+    Ok(())
+}
+
+#[test]
+fn a_region_has_spans_by_its_own_rule(rt: HostRuntime) -> Result<(), Fail> {
+    let alloc = rt.alloc();
+    let cases = [
+        (Rule::Nonzero, [(0, 4)].as_slice()),
+        (Rule::EvenOdd, &[(0, 1), (3, 4)]),
+    ];
+    for (rule, expected) in cases {
+        let mut rings = Rings::new(alloc);
+        rings.push(ring(alloc, &[(0, 256), (768, 256), (768, 0), (0, 0)])?)?;
+        rings.push(ring(alloc, &[(256, 256), (1024, 256), (1024, 0), (256, 0)])?)?;
+        let mut out = Spans::new(alloc);
+        region_spans(&Region { rule, rings }, 0, 0, 6, &mut out)?;
+        let mut pairs = Vec::new(alloc);
+        for span in out.items() {
+            pairs.push((span.first, span.end))?;
+        }
+        assert_eq!(rt; pairs.as_slice(), expected);
     }
     Ok(())
 }
