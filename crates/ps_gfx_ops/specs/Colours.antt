@@ -1,6 +1,6 @@
 -- Colour operators (PostScript Language Reference, third edition, 8.2 Operator Details: currentgray,
 -- setgray, setrgbcolor, setcmykcolor), each by its operands, the top first: enough of them, then their types.
-use Rattle.std.specs.Prelude.{ℤ, List, [], ◌∷◌, Option, Some, None}
+use Rattle.std.specs.Prelude.{ℤ, List, [], ◌∷◌, Option, Some}
 use Rattle.press_fault.specs.declared.names.PsName.TheVariants.{StackUnderflow, TypeCheck}
 use Rattle.ps_store.specs.declared.obj.Obj.{Obj}
 use Rattle.ps_store.specs.declared.obj.Obj.TheVariants.{Real}

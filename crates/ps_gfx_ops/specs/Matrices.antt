@@ -1,7 +1,7 @@
 -- Coordinate systems and matrices (PostScript Language Reference, third edition, 8.2 Operator Details: matrix, currentmatrix,
 -- setmatrix, concat, initmatrix, translate, scale, rotate, transform, itransform). Own rules: the types of all elements are asked
 -- before their number, and currentmatrix writes the first six elements whatever they are.
-use Rattle.std.specs.Prelude.{ℕ, ◌+◌, ℤ, Bool, false, List, [], ◌∷◌, drop, length, nat_lt, Option, Some, None, Result, Ok, Err, if◌then◌else◌}
+use Rattle.std.specs.Prelude.{ℤ, Bool, false, List, [], ◌∷◌, drop, length, nat_lt, Option, Some, Result, Ok, Err, if◌then◌else◌}
 use Rattle.std.specs.List.{list_all}
 use Rattle.std.specs.Option.{is_some}
 use Rattle.press_fault.specs.declared.names.PsName.{PsName}
@@ -11,7 +11,6 @@ use Rattle.geo_matrix.specs.Places.{Place, device_of, user_of}
 use Rattle.geo_matrix.specs.Turn.{turn_of}
 use Rattle.ps_store.specs.declared.obj.Obj.{Obj}
 use Rattle.ps_store.specs.declared.obj.Obj.TheVariants.{Array, Real}
-use Rattle.ps_store.specs.declared.obj.Span.{Span}
 use Rattle.ps_store.specs.Numbers.{raw_of}
 use Rattle.ps_store.specs.Outcome.{Outcome, Goes, Refuses, or_limit, or_undefined_result, or_refusal}
 use Rattle.ps_store.specs.Store.{Kept, with_array_of, objects_of}
@@ -30,7 +29,7 @@ abbrev pub matrix_row : List Obj → Kept → Graphics → Outcome Scene
 matrix_row operands s g =
     if nat_lt (length operands) 500
     then or_limit (with_array_of s (elements_of identity)) (λ new.
-      Goes (record { operands = Array new.0 false ∷ operands; store = new.1; graphics = g }))
+    Goes (record { operands = Array new.0 false ∷ operands; store = new.1; graphics = g }))
     else Refuses StackOverflow
 
 -- `currentmatrix`: the current transformation matrix in the first six elements of an array

@@ -1,7 +1,7 @@
 -- Path construction and painting (PostScript Language Reference, third edition, 8.2 Operator Details: newpath, closepath,
 -- moveto, lineto, rmoveto, rlineto, curveto, rcurveto, arc, arcn, currentpoint, fill, eofill). Own rule: where there is no
 -- current point, that is asked before the points.
-use Rattle.std.specs.Prelude.{ℤ, ◌+ℤ◌, Bool, true, false, List, [], ◌∷◌, drop, length, nat_lt, Option, Some, None, Result, Ok, Err, if◌then◌else◌}
+use Rattle.std.specs.Prelude.{ℤ, ◌+ℤ◌, Bool, List, ◌∷◌, drop, length, nat_lt, Option, Some, None, Result, Ok, Err, if◌then◌else◌}
 use Rattle.press_fault.specs.Plane.{Spot}
 use Rattle.press_fault.specs.declared.names.PsName.{PsName}
 use Rattle.press_fault.specs.declared.names.PsName.TheVariants.{StackUnderflow, StackOverflow, TypeCheck, NoCurrentPoint, UndefinedResult, LimitCheck}
@@ -9,16 +9,16 @@ use Rattle.geo_matrix.specs.Affine.{dots_of, step_dots_of}
 use Rattle.geo_matrix.specs.Places.{Place, back_of}
 use Rattle.geo_path.specs.declared.path.PathFault.{PathFault}
 use Rattle.geo_path.specs.declared.path.PathFault.TheVariants as OfPath
-use Rattle.geo_path.specs.Path.{PathValue, current_of, move_of, line_of, curve_of, closed}
+use Rattle.geo_path.specs.Path.{PathValue, current_of, move_of, line_of, curve_of}
 use Rattle.geo_path.specs.Arc.{arc_of}
 use Rattle.page_model.specs.declared.shape.Rule.{Rule}
 use Rattle.ps_store.specs.declared.obj.Obj.{Obj}
 use Rattle.ps_store.specs.declared.obj.Obj.TheVariants.{Real}
 use Rattle.ps_store.specs.Numbers.{raw_of}
 use Rattle.ps_store.specs.Outcome.{Outcome, Goes, Refuses, or_limit, or_undefined_result, or_refusal}
-use Rattle.gfx_state.specs.Graphics.{Graphics, with_path, with_answer, filled}
+use Rattle.gfx_state.specs.Graphics.{Graphics, with_path, filled}
 use Rattle.ps_gfx_ops.specs.Easel.{Easel}
-use Rattle.ps_gfx_ops.specs.Points.{ThreePlaces, one_point, three_points}
+use Rattle.ps_gfx_ops.specs.Points.{one_point, three_points}
 
 -- the error of the language that a path's refusal is; none of a path's definitions names want of memory
 abbrev pub error_of : PathFault → PsName

@@ -1,10 +1,9 @@
 -- The points that operators take from the operands, in user space: enough of them, then their types.
-use Rattle.std.specs.Prelude.{ℤ, List, [], ◌∷◌, drop, Option, Some, None, Result, Ok, Err}
+use Rattle.std.specs.Prelude.{ℤ, List, [], ◌∷◌, Option, Some, None, Result, Ok, Err}
 use Rattle.press_fault.specs.declared.names.PsName.{PsName}
 use Rattle.press_fault.specs.declared.names.PsName.TheVariants.{StackUnderflow, TypeCheck}
 use Rattle.ps_store.specs.declared.obj.Obj.{Obj}
 use Rattle.ps_store.specs.Numbers.{raw_of}
-use Rattle.ps_store.specs.Outcome.{Outcome, Goes, Refuses}
 use Rattle.geo_matrix.specs.Places.{Place}
 
 -- one number

@@ -8,7 +8,6 @@ use Rattle.ps_store.specs.Outcome.{Outcome, Goes}
 use Rattle.ps_store.specs.Store.{Kept}
 use Rattle.geo_path.specs.Path.{closed}
 use Rattle.gfx_state.specs.Graphics.{Graphics, erased, restored, all_restored, with_initial, with_default_matrix, with_path, no_path}
-use Rattle.ps_gfx_ops.specs.Easel.{Easel}
 use Rattle.ps_gfx_ops.specs.Scene.{Scene, beside}
 use Rattle.ps_gfx_ops.specs.States.{gsave_row}
 use Rattle.ps_gfx_ops.specs.Colours.{currentgray_row, setgray_row, setrgbcolor_row, setcmykcolor_row}

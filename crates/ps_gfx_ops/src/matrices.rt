@@ -115,9 +115,14 @@ fn are_numbers(objects: &[Obj]) -> bool
 fn six(a: &Obj, b: &Obj, c: &Obj, d: &Obj, tx: &Obj, ty: &Obj) -> Result<Matrix, PsName>
     ensures { result ≡ matrix_or_type (raw_of a.now) (raw_of b.now) (raw_of c.now) (raw_of d.now) (raw_of tx.now) (raw_of ty.now) }
 {
-    let (Some(a), Some(b), Some(c), Some(d), Some(tx), Some(ty)) =
-        (number(a), number(b), number(c), number(d), number(tx), number(ty))
-    else {
+    let (Some(a), Some(b), Some(c), Some(d), Some(tx), Some(ty)) = (
+        number(a),
+        number(b),
+        number(c),
+        number(d),
+        number(tx),
+        number(ty),
+    ) else {
         return Err(PsName::TypeCheck);
     };
     Ok(Matrix { a, b, c, d, tx, ty })

@@ -162,23 +162,11 @@ pub(crate) fn rcurveto(stack: &mut Stack, gfx: &mut Gfx) -> Result<(), OpFault>
     let Ok(r) = by_dots(&gfx.matrix(), u.third.x, u.third.y) else {
         return Err(OpFault::Ps(PsName::LimitCheck));
     };
-    draw_curve(
-        stack,
-        gfx,
-        stepped(at, p),
-        stepped(at, q),
-        stepped(at, r),
-    )
+    draw_curve(stack, gfx, stepped(at, p), stepped(at, q), stepped(at, r))
 }
 
 /// Draws a curve from the current point, and drops its six operands.
-fn draw_curve(
-    stack: &mut Stack,
-    gfx: &mut Gfx,
-    p: Point,
-    q: Point,
-    r: Point,
-) -> Result<(), OpFault>
+fn draw_curve(stack: &mut Stack, gfx: &mut Gfx, p: Point, q: Point, r: Point) -> Result<(), OpFault>
     requires { 6 ≤ length stack.old }
     ensures { Answers (drawn (curve_of gfx.old.state.path p q r) (drop 6 stack.old) gfx.old) result
         (record { operands = stack.old; graphics = gfx.old })
@@ -202,9 +190,13 @@ pub(crate) fn arc(stack: &mut Stack, gfx: &mut Gfx, clockwise: bool) -> Result<(
     let Some((to, from, r, y, x)) = stack.top_five() else {
         return Err(OpFault::Ps(PsName::StackUnderflow));
     };
-    let (Some(x), Some(y), Some(r), Some(from), Some(to)) =
-        (number(x), number(y), number(r), number(from), number(to))
-    else {
+    let (Some(x), Some(y), Some(r), Some(from), Some(to)) = (
+        number(x),
+        number(y),
+        number(r),
+        number(from),
+        number(to),
+    ) else {
         return Err(OpFault::Ps(PsName::TypeCheck));
     };
     match gfx.arc(x, y, r, from, to, clockwise) {

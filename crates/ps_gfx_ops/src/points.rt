@@ -60,8 +60,7 @@ pub(crate) fn three_points(stack: &Stack) -> Result<ThreePoints, PsName>
     let Some((y3, x3, y2, x2, y1, x1)) = stack.top_six() else {
         return Err(PsName::StackUnderflow);
     };
-    let (Ok(first), Ok(second), Ok(third)) =
-        (point_of(x1, y1), point_of(x2, y2), point_of(x3, y3))
+    let (Ok(first), Ok(second), Ok(third)) = (point_of(x1, y1), point_of(x2, y2), point_of(x3, y3))
     else {
         return Err(PsName::TypeCheck);
     };
