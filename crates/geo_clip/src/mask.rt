@@ -40,7 +40,7 @@ impl Model for BandMask {
 
 impl BandMask {
     /// A mask over the dots of the columns up to and without `width` and of so many rows from `first`
-    /// on. All of them are open.
+    /// on, each of which has a number of 32 bits. All dots are open.
     pub fn new(alloc: Global, width: u32, first: u32, rows: u32) -> Mem<BandMask>
         requires { first + rows ≤ 2 ^ 32 }
         ensures { IfOk result (λ mask. mask ≡ record { width = width; first = first; rows = rows; regions = [] }) }

@@ -1,5 +1,5 @@
 //! The dots of one row.
-ghost use Rattle.std.specs.Prelude.{◌≡◌, ◌<◌, ◌≤◌, Bool, true, false, replicate, length, slice_index_or, OnOk, IfOk};
+ghost use Rattle.std.specs.Prelude.{◌≡◌, ◌<◌, true, false, replicate, length, slice_index_or, OnOk, IfOk};
 ghost use Rattle.geo_fill.specs.Spans.{AreApart};
 ghost use Rattle.geo_clip.specs.Mask.{is_open};
 ghost use Rattle.geo_clip.specs.Dots.{ShowJust};

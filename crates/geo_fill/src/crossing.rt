@@ -1,5 +1,5 @@
 //! Where the edges of rings cross a row.
-ghost use Rattle.std.specs.Prelude.{◌≡◌, ◌≤◌, ◌<◌, ◌^◌, ℕ, ℤ, nat_le, IfOk, OnOk, IfSome, IsTrue, int_le, int_lt, ◌*ℤ◌, unsigned_abs};
+ghost use Rattle.std.specs.Prelude.{◌≡◌, ◌≤◌, ◌<◌, ◌^◌, ℕ, ℤ, nat_le, OnOk, IfSome, IsTrue, int_le, ◌*ℤ◌, unsigned_abs};
 ghost use Rattle.press_fault.specs.Plane.{IsWithin};
 ghost use Rattle.page_model.specs.Inside.{centre, crosses_left, turn_of, ring_winding, winding, is_between as in_range};
 ghost use Rattle.geo_fill.specs.Crossings.{whole_turn, turn_by, IsOfRange};
@@ -34,7 +34,6 @@ impl Crossing {
 }
 
 /// Adds the crossings of closed rings with a row, for the columns from `from` up to and without `to`.
-#[tactic(auto, unfolding(page_model::specs::Inside::winding))]
 pub(crate) fn add_rings(
     crossings: &mut Vec<Crossing>,
     rings: &[Ring],
@@ -43,7 +42,8 @@ pub(crate) fn add_rings(
     to: u32,
 ) -> Mem<()>
     requires { from ≤ to }
-    ensures { OnOk result (AreAdded from to crossings.old.items crossings.new.items (λ col. winding (centre col) (centre row) rings.now)) }
+    ensures { OnOk result (AreAdded from to crossings.old.items crossings.new.items
+        (λ col. winding (centre col) (centre row) rings.now)) }
 {
     for ring in rings {
         add_ring(crossings, ring.items(), row, from, to)?;
@@ -59,7 +59,8 @@ fn add_ring(
     to: u32,
 ) -> Mem<()>
     requires { from ≤ to }
-    ensures { OnOk result (AreAdded from to crossings.old.items crossings.new.items (λ col. ring_winding (centre col) (centre row) points.now)) }
+    ensures { OnOk result (AreAdded from to crossings.old.items crossings.new.items
+        (λ col. ring_winding (centre col) (centre row) points.now)) }
 {
     for i in 0..points.len() {
         let here = points[i];
@@ -78,7 +79,8 @@ fn add_edge(
     to: u32,
 ) -> Mem<()>
     requires { from ≤ to }
-    ensures { OnOk result (AreAdded from to crossings.old.items crossings.new.items (λ col. turn_of (centre col) (centre row) (here, next))) }
+    ensures { OnOk result (AreAdded from to crossings.old.items crossings.new.items
+        (λ col. turn_of (centre col) (centre row) (here, next))) }
 {
     if let Some(crossing) = crossing_of(here, next, row, from, to) {
         crossings.push(crossing)?;
@@ -90,7 +92,8 @@ fn add_edge(
 fn crossing_of(here: Point, next: Point, row: u32, from: u32, to: u32) -> Option<Crossing>
     requires { from ≤ to }
     ensures range { IfSome result (IsOfRange from to) }
-    ensures turns { (col : ℕ) → from ≤ col → col < to → turn_by col result ≡ turn_of (centre col) (centre row) (here, next) }
+    ensures turns { (col : ℕ) → from ≤ col → col < to →
+        turn_by col result ≡ turn_of (centre col) (centre row) (here, next) }
 {
     let height = centre_of(row);
     if is_between(here.wide_y(), next.wide_y(), height) {
@@ -116,7 +119,8 @@ fn first_column(low: Point, high: Point, height: Wide, from: u32, to: u32) -> u3
     requires rises { IsTrue (int_le low.y high.y) }
     ensures first { from ≤ result }
     ensures end { result ≤ to }
-    ensures columns { (col : ℕ) → from ≤ col → col < to → nat_le result col ≡ crosses_left low high (centre col) height }
+    ensures columns { (col : ℕ) → from ≤ col → col < to →
+        nat_le result col ≡ crosses_left low high (centre col) height }
 {
     let line = line_at(low, high, height);
     let mut first = from;

@@ -1,12 +1,12 @@
 //! The spans of a row: of a polygon by the crossings of its edges, of a disc column by column.
-ghost use Rattle.std.specs.Prelude.{◌≡◌, ◌≤◌, ◌+◌, ◌<◌, ◌^◌, ℕ, length, [], OnOk, OnErr, IfOk, pos, ◌-ℤ◌};
+ghost use Rattle.std.specs.Prelude.{◌≡◌, ◌≤◌, [], OnOk, OnErr, IfOk};
 ghost use Rattle.std.specs.List.{All};
-ghost use Rattle.page_model.specs.Inside.{centre, winding, rings_hold, is_inside as holds};
+ghost use Rattle.page_model.specs.Inside.{rings_hold, is_inside as holds};
 ghost use Rattle.page_model.specs.Cover.{shape_holds, region_holds};
 ghost use Rattle.geo_fill.specs.Spans.{HaveJust};
 ghost use Rattle.geo_fill.specs.Sweep.{AreBefore, AreTaken, IsEnded};
 ghost use Rattle.geo_fill.specs.Crossings.{winding_by, IsOfRange};
-ghost use Rattle.geo_fill.specs.Steps.{AreInOrder, AreAdded};
+ghost use Rattle.geo_fill.specs.Steps.{AreInOrder};
 
 use crate::crossing::{Crossing, add_rings};
 use crate::{Span, Spans};
