@@ -1,5 +1,5 @@
 -- A page that goes by no source has plain marks alone.
-use Rattle.std.proofs.Common.{◌≡◌, ◌<◌, ◌≤◌, ℕ, List, All, Option, Some, None, subst, arith}
+use Rattle.std.proofs.Common.{◌≡◌, ◌<◌, ℕ, List, All, Option, Some, None, subst, arith}
 use Rattle.std.proofs.lemmas.List.Elements.{All-weaker}
 use Rattle.page_model.specs.declared.mark.Ink.{Ink}
 use Rattle.page_model.specs.declared.mark.Ink.TheVariants.{Plain, Linked}

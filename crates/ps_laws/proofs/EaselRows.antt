@@ -2,10 +2,10 @@
 -- without any number of the top ones, and of these with two real numbers.
 use Rattle.std.specs.Prelude.{ℤ, Bool, nat_lt}
 use Rattle.std.proofs.lemmas.Bool.{ltb-true}
-use Rattle.std.proofs.Common.{◌≡◌, true, ℕ, ◌<◌, List, [], ◌∷◌, length, drop, Option, Some, None, Result, Ok, Err}
+use Rattle.std.proofs.Common.{ℕ, ◌<◌, List, ◌∷◌, length, drop, Option, Some, None, Result, Ok, Err}
 use Rattle.press_fault.specs.Plane.{Spot}
 use Rattle.press_fault.specs.declared.names.PsName.{PsName}
-use Rattle.geo_matrix.specs.Affine.{Affine, dots_of, step_dots_of}
+use Rattle.geo_matrix.specs.Affine.{dots_of, step_dots_of}
 use Rattle.geo_matrix.specs.Places.{Place, device_of, user_of, back_of}
 use Rattle.geo_matrix.specs.Turn.{turn_of}
 use Rattle.geo_path.specs.declared.path.PathFault.{PathFault}

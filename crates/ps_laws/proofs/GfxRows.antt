@@ -1,6 +1,6 @@
 -- The graphics operators leave at most 500 operands.
 use Rattle.std.specs.Prelude.{ℤ, nat_lt, true, false}
-use Rattle.std.proofs.Common.{◌≤◌, ◌<◌, List, [], ◌∷◌, length, drop, Option, Some, None, Result, Ok, Err, arith}
+use Rattle.std.proofs.Common.{◌≤◌, ◌<◌, List, [], ◌∷◌, length, Option, Some, None, Result, Ok, Err, arith}
 use Rattle.std.proofs.lemmas.Bool.{ltb-true}
 use Rattle.std.proofs.lemmas.List.{length-drop}
 use Rattle.press_fault.specs.Plane.{Spot}

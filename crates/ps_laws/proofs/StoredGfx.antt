@@ -1,6 +1,6 @@
 -- The graphics operators leave operands that are of the store.
 use Rattle.std.specs.Prelude.{ℤ, nat_lt, true, false}
-use Rattle.std.proofs.Common.{ℕ, ◌≤◌, ◌<◌, List, [], ◌∷◌, length, drop, arith, Option, Some, None, Result, Ok, Err}
+use Rattle.std.proofs.Common.{ℕ, List, [], ◌∷◌, length, arith, Option, Some, None, Result, Ok, Err}
 use Rattle.press_fault.specs.Plane.{Spot}
 use Rattle.press_fault.specs.declared.names.PsName.{PsName}
 use Rattle.ps_store.specs.declared.obj.Obj.{Obj}

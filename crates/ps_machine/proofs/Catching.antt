@@ -1,6 +1,6 @@
 -- Where an error goes, by the levels below the innermost stopped.
 use Rattle.std.proofs.lemmas.Bool.{le-leb, lt-leb}
-use Rattle.std.proofs.Common.{◌≤◌, suc, ◌≡◌, ◌∙◌, ◌<◌, ◌+◌, ap, sym, refl, ℕ, Bool, true, false, List, [], ◌∷◌, length, Option, Some, None, arith}
+use Rattle.std.proofs.Common.{suc, ◌≡◌, ◌∙◌, ◌<◌, ap, sym, refl, ℕ, Bool, true, false, List, [], ◌∷◌, length, Option, Some, None, arith}
 use Rattle.press_fault.specs.declared.names.PsName.{PsName}
 use Rattle.std.specs.Prelude.{nat_lt, if◌then◌else◌, codes}
 use Rattle.press_fault.specs.declared.names.PsName.TheVariants.{StackOverflow}

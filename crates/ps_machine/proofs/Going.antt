@@ -1,5 +1,5 @@
 -- One step of a run, and a name that leads to an operator.
-use Rattle.std.proofs.Common.{◌≡◌, ℕ, zero, suc, ◌-◌, ◌<◌, List, Option, Some, true, arith, refl, sym}
+use Rattle.std.proofs.Common.{◌≡◌, ℕ, zero, suc, ◌-◌, ◌<◌, List, Some, true, arith, refl, sym}
 use Rattle.page_model.specs.Page.{Sheet}
 use Rattle.ps_store.specs.declared.obj.Obj.{Obj}
 use Rattle.ps_store.specs.declared.obj.Obj.TheVariants.{Name, Oper as Operator}
@@ -8,10 +8,10 @@ use Rattle.ps_store.specs.declared.key.Key.TheVariants.{Named}
 use Rattle.ps_store.specs.Dicts.{find_key}
 use Rattle.gfx_state.specs.Graphics.{page_of}
 use Rattle.ps_machine.specs.State.{State}
-use Rattle.ps_machine.specs.Errors.{Step, Shows}
+use Rattle.ps_machine.specs.Errors.{Shows}
 use Rattle.ps_machine.specs.Steps.{execute, execute_value, operate, shown}
 use Rattle.ps_machine.specs.Reading.{step}
-use Rattle.ps_machine.specs.Meaning.{Meaning, after_page, and_then, run}
+use Rattle.ps_machine.specs.Meaning.{Meaning, after_page, run}
 
 -- a step that shows a page: the page comes, and then what the rest means
 pub a_page_comes : (n : ℕ) (s t now : State) (page : Sheet) (whole : Meaning) → 0 < n → run n s ≡ whole → step s ≡ Shows (page_of t.graphics) (shown t) → page ≡ page_of t.graphics → now ≡ shown t → whole ≡ after_page page (run (n - 1) now)

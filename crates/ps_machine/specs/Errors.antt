@@ -1,6 +1,6 @@
 -- What one step gives, and what an error does (PostScript Language Reference, third edition, 3.11 Errors).
 -- Own rules: where an error inside stopped goes, and the command that it names.
-use Rattle.std.specs.Prelude.{ℕ, ◌+◌, true, List, [], ◌∷◌, length, Option, None, nat_lt, if◌then◌else◌, codes}
+use Rattle.std.specs.Prelude.{ℕ, ◌+◌, true, List, [], ◌∷◌, length, None, nat_lt, if◌then◌else◌, codes}
 use Rattle.press_fault.specs.declared.names.PsName.{PsName}
 use Rattle.press_fault.specs.declared.names.PsName.TheVariants.{StackOverflow, Timeout}
 use Rattle.page_model.specs.Page.{Sheet}

@@ -1,7 +1,7 @@
 -- The dictionaries that a program finds (PostScript Language Reference, third edition, 3.7.5 Standard Dictionaries).
 -- Own rules: systemdict has the operators that are built, in the order of their numbers; its entries count in the
 -- store like all others.
-use Rattle.std.specs.Prelude.{ℕ, ◌*◌, List, [], ◌∷◌, length, map}
+use Rattle.std.specs.Prelude.{◌*◌, [], ◌∷◌, length, map}
 use Rattle.ps_store.specs.declared.obj.Obj.{Obj}
 use Rattle.ps_store.specs.declared.obj.Obj.TheVariants.{Oper as Operator}
 use Rattle.ps_store.specs.declared.oper.Oper.{Oper}

@@ -1,5 +1,5 @@
 -- The program's text, read one token at a time (PostScript Language Reference, third edition, 3.2 Syntax and 3.5.3).
-use Rattle.std.specs.Prelude.{ℕ, ◌+◌, true, false, List, [], ◌∷◌, ◌++◌, length, Option, Some, None, nat_lt, if◌then◌else◌, codes}
+use Rattle.std.specs.Prelude.{ℕ, true, false, List, [], ◌∷◌, length, Option, Some, None, nat_lt, if◌then◌else◌, codes}
 use Rattle.press_fault.specs.declared.names.PsName.TheVariants.{StackOverflow, Undefined, SyntaxError, LimitCheck}
 use Rattle.ps_scan.specs.declared.token.Token.{Token}
 use Rattle.ps_scan.specs.declared.token.Token.TheVariants.{Int, Real, Literal, Exec, Now, Text, Open, Close, End}

@@ -1,6 +1,5 @@
 -- What is executed (PostScript Language Reference, third edition, 3.5 Execution).
-use Rattle.std.specs.Prelude.{ℕ, ◌+◌, Bool, true, false, List, [], ◌∷◌, length, Option, Some, None, nat_lt, nat_le, if◌then◌else◌, codes}
-use Rattle.press_fault.specs.declared.names.PsName.{PsName}
+use Rattle.std.specs.Prelude.{ℕ, ◌+◌, true, List, ◌∷◌, length, Option, Some, None, nat_lt, nat_le, if◌then◌else◌, codes}
 use Rattle.press_fault.specs.declared.names.PsName.TheVariants.{StackOverflow, Undefined, ExecStackOverflow}
 use Rattle.ps_store.specs.declared.obj.Obj.{Obj}
 use Rattle.ps_store.specs.declared.obj.Obj.TheVariants.{Bool as Truth, Array, Name, Oper as Operator}

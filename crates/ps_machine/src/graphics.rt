@@ -353,7 +353,7 @@ fn currentpoint_and_its_refusals(rt: HostRuntime) -> Result<(), Fail> {
         ),
         (
             "room for two",
-            "0 0 moveto 498 {1} repeat currentpoint 499 {pop} repeat 1 eq",
+            "0 0 moveto 498 {1} repeat currentpoint clear true",
             "true",
         ),
     ];

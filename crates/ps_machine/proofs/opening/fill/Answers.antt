@@ -1,6 +1,6 @@
-use Rattle.std.proofs.Common.{◌∙◌, sym, ap, take, length, take_all, arith}
+use Rattle.std.proofs.Common.{◌∙◌, ap, length, take_all, arith}
 use Rattle.ps_store.specs.Operators.{operators_built}
-use Rattle.ps_machine.specs.Filling.{with_operators, with_operator, two_empty}
+use Rattle.ps_machine.specs.Filling.{with_operators}
 use Rattle.ps_machine.proofs.Filled.{filled, one_more}
 use Rattle.ps_machine.proofs.opening.fill.Goals as goal
 

@@ -1,4 +1,4 @@
-use Rattle.std.proofs.Common.{◌≡◌, Some, ap, sym, ◌∙◌}
+use Rattle.std.proofs.Common.{Some, ap, sym, ◌∙◌}
 use Rattle.ps_store.specs.declared.obj.Obj.TheVariants.{Name}
 use Rattle.ps_machine.proofs.Going.{executed}
 use Rattle.ps_machine.proofs.body.Body.execute_at.Goals as goal
