@@ -5,6 +5,7 @@
 #![tactic(auto)]
 
 mod corner;
+mod dash;
 mod line;
 mod pen;
 mod segment;
