@@ -31,7 +31,7 @@ pub later_next : (phase total : ℕ) (dashes : List ℕ) (k n cycle : ℕ) → c
     later phase total dashes k ≡ cycle_dashes phase total dashes (k * cycle) ++ later phase total dashes (k + 1)
 later_next phase total dashes k n cycle e m h =
     rw e (flat_next (λ j. cycle_dashes phase total dashes (j * cycle_length dashes)) k (cycles_of phase total dashes)
-        (subst (λ (c : ℕ). k < (phase + total) / c + 1) e (subst (λ (j : ℕ). k < j) m h)))
+    (subst (λ (c : ℕ). k < (phase + total) / c + 1) e (subst (λ (j : ℕ). k < j) m h)))
 
 pub later_length : (phase total : ℕ) (dashes : List ℕ) (k n cycle : ℕ) → cycle ≡ cycle_length dashes → n ≡ (phase + total) / cycle + 1 → k < n →
     length (later phase total dashes k) ≡ length (cycle_dashes phase total dashes (k * cycle)) + length (later phase total dashes (k + 1))

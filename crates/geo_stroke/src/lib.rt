@@ -8,6 +8,7 @@ mod corner;
 mod dash;
 mod line;
 mod pen;
+mod place;
 mod segment;
 mod shapes;
 mod stroke;
