@@ -19,7 +19,7 @@ use Rattle.geo_stroke.specs.Cursor.{IsAhead, IsCursor, later_by}
 positive_most : (n t l k : ℕ) → 0 < l → t ≤ l → l * 2 * k ≤ n * t * 2 + l → k ≤ n
 positive_most n t l k some h f = by_le k n (λ e. e)
     (λ e. let m : n * t ≤ n * l = mul-le-mul_left n h in
-          let more : l * (n + 1) ≤ l * k = mul-le-mul_left l (omega arith) in absurd (omega (arith, f, m, more, some)))
+    let more : l * (n + 1) ≤ l * k = mul-le-mul_left l (omega arith) in absurd (omega (arith, f, m, more, some)))
 
 positive_way : (n t l : ℕ) (q : ℤ) → 0 < l → t ≤ l → IsNearest (pos n *ℤ pos t) (pos l) q → (pos 0 ≤ℤ q) × (q ≤ℤ pos n)
 positive_way n t l (negsuc k) some h i = let g = i.greatest (pos 0) (omega (arith, ints)) in absurd (omega (arith, ints, g))
@@ -83,9 +83,9 @@ pub cursor_on : (s : Segment) (all : List Segment) (here next : Segment) (rest t
     rest ≡ next ∷ tail → q ≡ fine_length_of here → IsCursor s all here rest p → IsCursor s all next tail (p + q)
 cursor_on s all here next rest tail p q e f c =
     let d = subst (λ (r : List Segment). IsCursor s all here r p) e c in record {
-  total = let g = d.total in omega arith;
-  ahead = λ t h. rw f (ahead_next s all here next tail p t (d.ahead t (omega arith)) (omega arith));
-}
+      total = let g = d.total in omega arith;
+      ahead = λ t h. rw f (ahead_next s all here next tail p t (d.ahead t (omega arith)) (omega arith));
+    }
 
 -- what is left of what is left
 pub ahead_through : (s : Segment) (all : List Segment) (h : Segment) (r : List Segment) (p : ℕ) (h2 : Segment) (r2 : List Segment) (p2 t : ℕ) →
@@ -142,3 +142,8 @@ pub points_done : (s : Segment) (rest : List Segment) (from to : ℕ) (whole poi
     whole ≡ points ++ points_left s rest from to → p ≡ point_at (record { segment = s; distance = to }) → new ≡ points ++ p ∷ [] → new ≡ whole
 points_done s rest from to whole points new p h w e n =
     n ∙ sym (w ∙ ap (λ (l : List Spot). points ++ l) (points_end s rest from to h ∙ ap (λ (q : Spot). q ∷ []) (sym e)))
+
+-- the length of two chains in a row
+pub total_append : (xs ys : List Segment) → total_of (xs ++ ys) ≡ total_of xs + total_of ys
+total_append [] ys = omega arith
+total_append (x ∷ xs) ys = let e = total_append xs ys in omega arith

@@ -7,6 +7,7 @@ ghost use Rattle.std.specs.Int.{int_rem_euclid};
 ghost use Rattle.std.specs.List.{sum};
 ghost use Rattle.geo_stroke.specs.Pen.{is_solid};
 ghost use Rattle.geo_stroke.specs.Dash.{is_even, cycle_length, phase_of, is_made, dash_on, dash_of, dashes_from, cycle_dashes, cycles_of, dashes_by};
+ghost use Rattle.geo_stroke.specs.Cursor.{later_by};
 
 use press_fault::Mem;
 use std::alloc::Global;
@@ -18,6 +19,21 @@ pub(crate) struct Dash {
     pub from: u128,
     pub to: u128,
     pub is_dot: bool,
+}
+
+impl Dash {
+    /// The same dash, by distances that begin later.
+    pub(crate) fn later_by(self, passed: u128) -> Dash
+        requires start { passed ≤ self.from }
+        requires end { passed ≤ self.to }
+        ensures { result ≡ later_by passed self }
+    {
+        Dash {
+            from: self.from - passed,
+            to: self.to - passed,
+            is_dot: self.is_dot,
+        }
+    }
 }
 
 /// A line under a pattern of dashes: how far into the first cycle it begins, and how long it is.

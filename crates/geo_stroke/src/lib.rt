@@ -6,6 +6,7 @@
 
 mod corner;
 mod dash;
+mod dashed;
 mod line;
 mod pen;
 mod place;

@@ -13,5 +13,5 @@ loop-next-init c = record {
 pub returns-clause-value : goal.returns-clause-value
 returns-clause-value c =
     points_done c.loop-next.here c.loop-next.behind.now c.loop-next.start c.loop-next.end
-        (dash_points c.args.first c.args.rest.now c.args.from c.args.to) c.loop-next.points c.push_near-2.new.points c.point_at-2.result
-        c.in_default.ensures c.loop-next.invariant.points c.point_at-2.ensures.value c.in_ok-push_near-2.ensures.ok
+    (dash_points c.args.first c.args.rest.now c.args.from c.args.to) c.loop-next.points c.push_near-2.new.points c.point_at-2.result
+    c.in_default.ensures c.loop-next.invariant.points c.point_at-2.ensures.value c.in_ok-push_near-2.ensures.ok
