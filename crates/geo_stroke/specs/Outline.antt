@@ -26,24 +26,17 @@ square_end q n e = polygon (plus q n ∷ plus q (plus n e) ∷ plus q (minus e n
 abbrev pub square_start : Spot → Spot → Spot → Shape
 square_start p n e = polygon (plus p n ∷ plus p (minus n e) ∷ minus p (plus n e) ∷ minus p n ∷ [])
 
--- half a width further, where a line ends with a segment and where it starts with one
-abbrev pub end_square : ℤ → Segment → Shape
-end_square half s = square_end s.to (across half s) (along half s)
-
-abbrev pub start_square : ℤ → Segment → Shape
-start_square half s = square_start s.from (across half s) (along half s)
-
 -- what a cap paints where a line ends with a segment
 abbrev pub end_cap : Cap → ℤ → Segment → List Shape
 end_cap Butt half s = []
 end_cap Round half s = disc_at half s.to ∷ []
-end_cap Square half s = end_square half s ∷ []
+end_cap Square half s = square_end s.to (across half s) (along half s) ∷ []
 
 -- what a cap paints where a line starts with a segment
 abbrev pub start_cap : Cap → ℤ → Segment → List Shape
 start_cap Butt half s = []
 start_cap Round half s = disc_at half s.from ∷ []
-start_cap Square half s = start_square half s ∷ []
+start_cap Square half s = square_start s.from (across half s) (along half s) ∷ []
 
 -- the caps of an open line
 abbrev pub caps : PenValue → Bool → Segment → List Segment → List Shape

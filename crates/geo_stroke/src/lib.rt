@@ -5,8 +5,11 @@
 #![tactic(auto)]
 
 mod corner;
+mod dash;
+mod dashed;
 mod line;
 mod pen;
+mod place;
 mod segment;
 mod shapes;
 mod stroke;

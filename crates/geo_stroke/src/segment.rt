@@ -90,6 +90,14 @@ impl Segment {
         Wide::of_size(u128::from(isqrt(self.square() * 65536)))
     }
 
+    /// Its length in 1/65536 of a dot, as a distance.
+    pub(crate) fn extent(self) -> u128
+        ensures value { result ≡ fine_length_of self }
+        ensures bound { result ≤ 2 ^ 41 }
+    {
+        self.fine_length().size()
+    }
+
     /// Half a line's width along it.
     pub(crate) fn along(self, half: Wide) -> Vector
         requires { IsHalf half }
