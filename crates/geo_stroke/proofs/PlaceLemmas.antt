@@ -1,19 +1,16 @@
 -- Places on chains of segments.
-use Rattle.std.proofs.Common.{◌≡◌, ℕ, zero, suc, ◌+◌, ◌-◌, ◌*◌, ◌<◌, ◌≤◌, ◌^◌, Bool, true, false, arith, refl, ap, sym, subst, ◌∙◌, List, [], ◌∷◌, ◌++◌, append_assoc, leb, nat_lt}
+use Rattle.std.proofs.Common.{◌≡◌, ℕ, zero, suc, ◌+◌, ◌-◌, ◌*◌, ◌<◌, ◌≤◌, ◌^◌, arith, refl, ap, sym, subst, ◌∙◌, List, [], ◌∷◌, ◌++◌, append_assoc, nat_lt}
 use Rattle.std.specs.Prelude.{ℤ, pos, negsuc, ◌+ℤ◌, ◌*ℤ◌, ◌≤ℤ◌, ◌<ℤ◌, unsigned_abs, if◌then◌else◌}
-use Rattle.std.specs.List.{All}
 use Rattle.std.proofs.lemmas.Int.{ints}
 use Rattle.std.proofs.lemmas.Bool.{le-leb, lt-leb, le-ltb}
 use Rattle.std.proofs.Math.Bool.{and-true, and-false}
 use Rattle.std.proofs.Math.Nat.{mul-le-mul_left}
 use Rattle.press_nums.specs.Rounding.{IsNearest}
 use Rattle.press_fault.specs.Plane.{Spot}
-use Rattle.geo_stroke.specs.declared.dash.Dash.{Dash}
-use Rattle.geo_stroke.specs.Pen.{PenValue}
 use Rattle.geo_stroke.specs.Segment.{Segment, fine_length_of}
-use Rattle.geo_stroke.specs.Dash.{Place, place_from, corners_from, total_of, point_at, dash_points, dash_shapes}
+use Rattle.geo_stroke.specs.Dash.{Place, place_from, corners_from, total_of, point_at, dash_points}
 use Rattle.geo_stroke.proofs.LengthLemmas.{by_le}
-use Rattle.geo_stroke.specs.Cursor.{IsAhead, IsCursor, later_by}
+use Rattle.geo_stroke.specs.Cursor.{IsAhead, IsCursor}
 
 -- a part of a step, rounded, lies between 0 and the step
 positive_most : (n t l k : ℕ) → 0 < l → t ≤ l → l * 2 * k ≤ n * t * 2 + l → k ≤ n

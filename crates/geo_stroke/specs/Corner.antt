@@ -3,7 +3,7 @@
 -- corner that goes straight on or straight back has a round join or none; a bevel is the triangle
 -- between the outer sides and the corner; the miter limit counts up to 1024; a miter asks besides that
 -- the outer sides meet in front of the corner, at most 2048 times half a width away along each axis.
-use Rattle.std.specs.Prelude.{ℕ, ◌*◌, ◌^◌, ◌==◌, Bool, ◌&&◌, nat_le, ℤ, pos, ◌+ℤ◌, ◌-ℤ◌, ◌*ℤ◌, int_le, int_lt, unsigned_abs, List, [], ◌∷◌, if◌then◌else◌}
+use Rattle.std.specs.Prelude.{ℕ, ◌*◌, ◌==◌, Bool, ◌&&◌, nat_le, ℤ, pos, ◌+ℤ◌, ◌-ℤ◌, ◌*ℤ◌, int_le, int_lt, unsigned_abs, List, [], ◌∷◌, if◌then◌else◌}
 use Rattle.press_nums.specs.Rounding.{div_round}
 use Rattle.press_fault.specs.Plane.{Spot}
 use Rattle.page_model.specs.declared.shape.Shape.{Shape}

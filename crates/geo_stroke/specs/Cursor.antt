@@ -1,5 +1,5 @@
 -- Where one is on a chain of segments. These words serve the code's proofs alone.
-use Rattle.std.specs.Prelude.{◌≡◌, ℕ, ◌+◌, ◌-◌, ◌<◌, ◌≤◌, List, ◌∷◌, [], ◌++◌}
+use Rattle.std.specs.Prelude.{◌≡◌, ℕ, ◌+◌, ◌-◌, ◌<◌, ◌≤◌, List, ◌∷◌}
 use Rattle.geo_stroke.specs.declared.dash.Dash.{Dash}
 use Rattle.geo_stroke.specs.Segment.{Segment}
 use Rattle.geo_stroke.specs.Dash.{place_from, corners_from, total_of}

@@ -1,8 +1,7 @@
 -- Outlines of lines (PostScript Language Reference, third edition, 8.2 `stroke`, `setlinecap`). All
 -- polygons of a stroke go by the nonzero winding number rule. Own rules: each segment, join and cap is
 -- a shape of its own; the pen is round under every matrix.
-use Rattle.std.specs.Prelude.{ℕ, ◌≡◌, Bool, not, ◌||◌, ℤ, List, [], ◌∷◌, ◌++◌, length, map, nat_le, if◌then◌else◌}
-use Rattle.std.specs.List.{flat_map}
+use Rattle.std.specs.Prelude.{Bool, ◌||◌, ℤ, List, [], ◌∷◌, ◌++◌, length, map, nat_le, if◌then◌else◌}
 use Rattle.press_fault.specs.Plane.{Spot}
 use Rattle.page_model.specs.declared.shape.Shape.{Shape}
 use Rattle.geo_path.specs.Flat.{LineValue}
@@ -60,7 +59,3 @@ shapes_by pen line (s ∷ rest) =
 
 unfoldable pub line_shapes : PenValue → LineValue → List Shape
 line_shapes pen line = shapes_by pen line (segments_of line)
-
--- the shapes of lines under a solid pen
-abbrev pub solid_outline : PenValue → List LineValue → List Shape
-solid_outline pen lines = flat_map (line_shapes pen) lines
