@@ -39,7 +39,8 @@ start_cap Square half s = square_start s.from (across half s) (along half s) ∷
 
 -- the caps of an open line
 abbrev pub caps : PenValue → Bool → Segment → List Segment → List Shape
-caps pen closed s rest = if closed then [] else end_cap pen.cap pen.half (last_of s rest) ++ start_cap pen.cap pen.half s
+caps pen closed s rest =
+    if closed then [] else end_cap pen.cap pen.half (last_of s rest) ++ start_cap pen.cap pen.half s
 
 -- a line whose points are all the same: a disc under a round cap, where it is closed or isn't a move alone
 abbrev pub dot_by : Cap → ℤ → Spot → List Shape
@@ -55,7 +56,9 @@ dot pen (p ∷ rest) closed = if closed || nat_le 1 (length rest) then dot_by pe
 abbrev pub shapes_by : PenValue → LineValue → List Segment → List Shape
 shapes_by pen line [] = dot pen line.points line.closed
 shapes_by pen line (s ∷ rest) =
-    map (body pen.half) (s ∷ rest) ++ between (join_shapes pen) s (rest ++ closing line.closed s) ++ caps pen line.closed s rest
+    map (body pen.half) (s ∷ rest)
+    ++ between (join_shapes pen) s (rest ++ closing line.closed s)
+    ++ caps pen line.closed s rest
 
 unfoldable pub line_shapes : PenValue → LineValue → List Shape
 line_shapes pen line = shapes_by pen line (segments_of line)
