@@ -10,6 +10,7 @@ ghost use Rattle.geo_stroke.specs.Dash.{is_even, cycle_length, phase_of, is_made
 ghost use Rattle.geo_stroke.specs.Cursor.{later_by, LeavesRoom};
 
 use press_fault::Mem;
+use press_nums::Wide;
 use std::alloc::Global;
 
 /// A dash on a line, by the distances from the line's start at which it begins and ends, and whether
@@ -78,13 +79,13 @@ pub(crate) fn cycle_length(dashes: &[u64]) -> u128
 }
 
 /// How far into a cycle of this length an offset lies.
-pub(crate) fn phase(offset: i64, cycle: u128) -> u128
+pub(crate) fn phase(offset: Wide, cycle: u128) -> u128
     requires some { 0 < cycle }
     requires bound { cycle ≤ 2 ^ 70 }
     ensures value { result ≡ unsigned_abs (int_rem_euclid offset (pos cycle)) }
     ensures bound { result < cycle }
 {
-    i128::from(offset).rem_euclid(cycle as i128) as u128
+    offset.to_i128().rem_euclid(cycle as i128) as u128
 }
 
 /// Whether a dash is made that is `size` long from a distance on.

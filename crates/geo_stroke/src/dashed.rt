@@ -63,7 +63,7 @@ fn pen_phase(pen: &Pen) -> u128
     ensures value { result ≡ phase_of pen.now.dashes pen.now.offset }
     ensures bound { result ≤ 2 ^ 70 }
 {
-    phase(pen.offset, cycle_length(pen.dashes.items()))
+    phase(pen.wide_offset(), cycle_length(pen.dashes.items()))
 }
 
 /// Adds the shapes of dashes on a chain of segments.
@@ -78,6 +78,7 @@ fn push_dashes(
     requires { All (IsOnLine (total_of (first ∷ all.now))) dashes.now }
     ensures ok { OnOk result (shapes.new ≡ shapes.old ++ flat_map (dash_shapes pen.now first all.now) dashes.now) }
 {
+    // The cursor's parts stand apart, since the proof doesn't follow a slice in a struct round a loop.
     let mut here = first;
     let mut rest = all;
     let mut passed = 0;
@@ -179,7 +180,7 @@ fn sizes_of(line: &Line) -> Sizes
     }
 }
 
-/// The segments from a point through others, and back to it where they are closed.
+/// The same of the segments from a point through others, and back to it where they are closed.
 #[tactic(auto, using(crate::proofs::PlaceLemmas::total_append))]
 fn sizes_through(first: Point, rest: &[Point], closed: bool) -> Sizes
     requires first { IsNear first }

@@ -1,4 +1,5 @@
 //! Cases by hand, with values from the rules.
+ghost use Rattle.std.specs.Prelude.{◌<◌, ◌^◌};
 
 use super::*;
 use geo_path::{Lines, Path, PathFault};
@@ -55,21 +56,36 @@ fn corner(alloc: Global, x: i32, y: i32, end_x: i32, end_y: i32) -> Result<Lines
     Ok(path.flatten()?)
 }
 
-/// A pen of half a width with the cap and the join of these numbers, and a miter limit.
+/// A solid pen of half a width with the cap and the join of these numbers, and a miter limit.
 fn pen(alloc: Global, half: u32, cap: i32, join: i32, miter: i64) -> Result<Pen, &'static str> {
+    pen_of(half, cap, join, miter, Dashes::new(alloc), 0)
+}
+
+/// The same with dashes from an offset on.
+fn pen_of(
+    half: u32,
+    cap: i32,
+    join: i32,
+    miter: i64,
+    dashes: Dashes,
+    offset: i64,
+) -> Result<Pen, &'static str> {
     let cap = Cap::of(Whole::of(cap)).ok_or("no cap")?;
     let join = Join::of(Whole::of(join)).ok_or("no join")?;
     let miter = Fix::of_raw(miter).ok_or("no limit")?;
     if miter.raw() < 65536 || half < 128 || half > 1073741824 {
         return Err("too little");
     }
+    if offset.unsigned_abs() >= 0x4000_0000_0000_0000 {
+        return Err("too far");
+    }
     Ok(Pen {
         half: i64::from(half),
         cap,
         join,
         miter,
-        dashes: Dashes::new(alloc),
-        offset: 0,
+        dashes,
+        offset,
     })
 }
 
@@ -364,11 +380,22 @@ fn miters_stand_within_the_limit(rt: HostRuntime) -> Result<(), Fail> {
 const DOT: i64 = 65536;
 
 /// A dash or a gap by its letter: `a` is 0, and each next one is a dot longer; `z` is 66/65536.
-fn length(letter: u8) -> u64 {
+fn length(letter: u8) -> u64
+    ensures { result < 2 ^ 62 }
+{
     match letter {
         b'z' => 66,
         _ => 65536 * u64::from(letter.saturating_sub(97)),
     }
+}
+
+/// A pattern of dashes and gaps by their letters.
+fn pattern(alloc: Global, letters: &str) -> Result<Dashes, &'static str> {
+    let mut dashes = Dashes::new(alloc);
+    for letter in letters.as_bytes() {
+        dashes.push(length(*letter)).ok().ok_or("no dash")?;
+    }
+    Ok(dashes)
 }
 
 /// A pen two dots wide with dashes.
@@ -379,15 +406,7 @@ fn dashed(
     dashes: &str,
     offset: i64,
 ) -> Result<Pen, &'static str> {
-    if offset <= -0x4000_0000_0000_0000 || offset >= 0x4000_0000_0000_0000 {
-        return Err("too far");
-    }
-    let mut pen = pen(alloc, 256, cap, join, 655360)?;
-    for letter in dashes.as_bytes() {
-        pen.dashes.push(length(*letter)).ok().ok_or("no dash")?;
-    }
-    pen.offset = offset;
-    Ok(pen)
+    pen_of(256, cap, join, 655360, pattern(alloc, dashes)?, offset)
 }
 
 /// Where the dashes of a level line of six dots begin and end, in sub-dots.
