@@ -1,5 +1,5 @@
 -- Patterns of dashes, and their cycles one after the other.
-use Rattle.std.proofs.Common.{◌≡◌, ℕ, zero, suc, ◌+◌, ◌-◌, ◌*◌, ◌/◌, ◌<◌, ◌≤◌, ◌==◌, Bool, true, false, arith, refl, ap, sym, ◌∙◌, List, [], ◌∷◌, ◌++◌, length, length-append, subst, append_assoc}
+use Rattle.std.proofs.Common.{◌≡◌, ℕ, zero, suc, ◌+◌, ◌-◌, ◌*◌, ◌/◌, ◌<◌, false, arith, refl, ap, sym, ◌∙◌, List, [], ◌∷◌, ◌++◌, length, length-append, subst, append_assoc}
 use Rattle.std.specs.List.{sum, flat_map, range_with_len}
 use Rattle.std.proofs.lemmas.Grind.{common_steps}
 use Rattle.geo_stroke.specs.declared.dash.Dash.{Dash}

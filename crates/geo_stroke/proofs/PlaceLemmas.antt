@@ -1,19 +1,16 @@
 -- Places on chains of segments.
-use Rattle.std.proofs.Common.{◌≡◌, ℕ, zero, suc, ◌+◌, ◌-◌, ◌*◌, ◌<◌, ◌≤◌, ◌^◌, Bool, true, false, arith, refl, ap, sym, subst, ◌∙◌, List, [], ◌∷◌, ◌++◌, append_assoc, leb, nat_lt}
+use Rattle.std.proofs.Common.{◌≡◌, ℕ, zero, suc, ◌+◌, ◌-◌, ◌*◌, ◌<◌, ◌≤◌, ◌^◌, arith, refl, ap, sym, subst, ◌∙◌, List, [], ◌∷◌, ◌++◌, append_assoc, nat_lt}
 use Rattle.std.specs.Prelude.{ℤ, pos, negsuc, ◌+ℤ◌, ◌*ℤ◌, ◌≤ℤ◌, ◌<ℤ◌, unsigned_abs, if◌then◌else◌}
-use Rattle.std.specs.List.{All}
 use Rattle.std.proofs.lemmas.Int.{ints}
 use Rattle.std.proofs.lemmas.Bool.{le-leb, lt-leb, le-ltb}
 use Rattle.std.proofs.Math.Bool.{and-true, and-false}
 use Rattle.std.proofs.Math.Nat.{mul-le-mul_left}
 use Rattle.press_nums.specs.Rounding.{IsNearest}
 use Rattle.press_fault.specs.Plane.{Spot}
-use Rattle.geo_stroke.specs.declared.dash.Dash.{Dash}
-use Rattle.geo_stroke.specs.Pen.{PenValue}
 use Rattle.geo_stroke.specs.Segment.{Segment, fine_length_of}
-use Rattle.geo_stroke.specs.Dash.{Place, place_from, corners_from, total_of, point_at, dash_points, dash_shapes}
+use Rattle.geo_stroke.specs.Dash.{Place, place_on, place_from, corners_from, total_of, point_at, dash_points}
 use Rattle.geo_stroke.proofs.LengthLemmas.{by_le}
-use Rattle.geo_stroke.specs.Cursor.{IsAhead, IsCursor, later_by}
+use Rattle.geo_stroke.specs.Cursor.{IsAhead, IsCursor}
 
 -- a part of a step, rounded, lies between 0 and the step
 positive_most : (n t l k : ℕ) → 0 < l → t ≤ l → l * 2 * k ≤ n * t * 2 + l → k ≤ n
@@ -53,7 +50,7 @@ place_passes : (s next : Segment) (tail : List Segment) (d : ℕ) → fine_lengt
 place_passes s next tail d h = rw (lt-leb d (fine_length_of s) h) refl
 
 -- and one that isn't lies on the segment
-pub place_here : (s : Segment) (rest : List Segment) (d : ℕ) → d ≤ fine_length_of s → place_from s rest d ≡ record { segment = s; distance = d }
+pub place_here : (s : Segment) (rest : List Segment) (d : ℕ) → d ≤ fine_length_of s → place_from s rest d ≡ place_on s d
 place_here s [] d h = refl
 place_here s (next ∷ tail) d h = rw (le-leb d (fine_length_of s) h) refl
 
@@ -109,7 +106,7 @@ points_left s rest from to = corners_from s rest from to ++ point_at (place_from
 
 -- a dash's points are the first one and what is left
 pub points_start : (s : Segment) (rest : List Segment) (from to : ℕ) → from ≤ fine_length_of s →
-    dash_points s rest from to ≡ point_at (record { segment = s; distance = from }) ∷ points_left s rest from to
+    dash_points s rest from to ≡ point_at (place_on s from) ∷ points_left s rest from to
 points_start s rest from to h = ap (λ (p : Place). point_at p ∷ points_left s rest from to) (place_here s rest from h)
 
 corner_next : (s next : Segment) (tail : List Segment) (from to : ℕ) → fine_length_of s < to →
@@ -131,15 +128,15 @@ no_corners s (next ∷ tail) from to h =
 
 -- a dash that ends on this segment has no corner left
 pub points_end : (s : Segment) (rest : List Segment) (from to : ℕ) → to ≤ fine_length_of s →
-    points_left s rest from to ≡ point_at (record { segment = s; distance = to }) ∷ []
+    points_left s rest from to ≡ point_at (place_on s to) ∷ []
 points_end s rest from to h = rw (no_corners s rest from to h) (ap (λ (p : Place). point_at p ∷ []) (place_here s rest to h))
 
 pub points_begin : (s : Segment) (rest : List Segment) (from to : ℕ) (points none : List Spot) (p : Spot) → from ≤ fine_length_of s →
-    none ≡ [] → p ≡ point_at (record { segment = s; distance = from }) → points ≡ none ++ p ∷ [] → dash_points s rest from to ≡ points ++ points_left s rest from to
+    none ≡ [] → p ≡ point_at (place_on s from) → points ≡ none ++ p ∷ [] → dash_points s rest from to ≡ points ++ points_left s rest from to
 points_begin s rest from to points none p h n e m = rw (m, n, e) (points_start s rest from to h)
 
 pub points_done : (s : Segment) (rest : List Segment) (from to : ℕ) (whole points new : List Spot) (p : Spot) → to ≤ fine_length_of s →
-    whole ≡ points ++ points_left s rest from to → p ≡ point_at (record { segment = s; distance = to }) → new ≡ points ++ p ∷ [] → new ≡ whole
+    whole ≡ points ++ points_left s rest from to → p ≡ point_at (place_on s to) → new ≡ points ++ p ∷ [] → new ≡ whole
 points_done s rest from to whole points new p h w e n =
     n ∙ sym (w ∙ ap (λ (l : List Spot). points ++ l) (points_end s rest from to h ∙ ap (λ (q : Spot). q ∷ []) (sym e)))
 

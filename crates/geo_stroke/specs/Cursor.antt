@@ -1,5 +1,5 @@
--- Where one is on a chain of segments. These words serve the code's proofs alone.
-use Rattle.std.specs.Prelude.{◌≡◌, ℕ, ◌+◌, ◌-◌, ◌<◌, ◌≤◌, List, ◌∷◌, [], ◌++◌}
+-- Where one is on a chain of segments. These words serve the contracts inside the crate alone.
+use Rattle.std.specs.Prelude.{◌≡◌, ℕ, ◌+◌, ◌-◌, ◌<◌, ◌≤◌, List, Option, MatchOption, ◌∷◌}
 use Rattle.geo_stroke.specs.declared.dash.Dash.{Dash}
 use Rattle.geo_stroke.specs.Segment.{Segment}
 use Rattle.geo_stroke.specs.Dash.{place_from, corners_from, total_of}
@@ -22,3 +22,7 @@ pub record IsOnLine (total : ℕ) (dash : Dash) : Type 0 where
 -- the same dash, by distances that begin later
 abbrev pub later_by : ℕ → Dash → Dash
 later_by passed dash = record { from = dash.from - passed; to = dash.to - passed; is_dot = dash.is_dot }
+
+-- the room that so many dashes leave; none where they are more than there is room for
+abbrev pub LeavesRoom : ℕ → ℕ → Option ℕ → Type 0
+LeavesRoom room count left = MatchOption left (room < count) (λ r. r + count ≡ room)

@@ -3,7 +3,7 @@
 -- line begins as far into the first cycle as the offset says, and no cycle comes before that one; a dash
 -- is a line of its own, through points rounded once; a dash whose length is 0 stands also where it
 -- meets an end of the line.
-use Rattle.std.specs.Prelude.{ℕ, zero, suc, ◌+◌, ◌-◌, ◌*◌, ◌/◌, ◌%◌, ◌==◌, ◌≤◌, Bool, true, false, not, ◌&&◌, nat_le, nat_lt, min, ℤ, pos, ◌+ℤ◌, ◌-ℤ◌, ◌*ℤ◌, unsigned_abs, List, [], ◌∷◌, ◌++◌, length, if◌then◌else◌}
+use Rattle.std.specs.Prelude.{ℕ, ◌+◌, ◌-◌, ◌*◌, ◌/◌, ◌%◌, ◌==◌, Bool, true, false, not, ◌&&◌, nat_le, nat_lt, min, ℤ, pos, ◌+ℤ◌, ◌*ℤ◌, unsigned_abs, List, [], ◌∷◌, ◌++◌, length, if◌then◌else◌}
 use Rattle.std.specs.Int.{int_rem_euclid}
 use Rattle.std.specs.List.{flat_map, sum, range_with_len}
 use Rattle.press_nums.specs.Rounding.{div_round}
@@ -73,14 +73,17 @@ pub record Place : Type 0 where
   pub segment : Segment
   pub distance : ℕ
 
+abbrev pub place_on : Segment → ℕ → Place
+place_on s distance = record { segment = s; distance = distance }
+
 -- the first segment that reaches so far; at a corner it is the one that ends there
 abbrev pub place_from : Segment → List Segment → ℕ → Place
-place_from s [] distance = record { segment = s; distance = distance }
+place_from s [] distance = place_on s distance
 place_from s (next ∷ rest) distance =
-    if nat_le distance (fine_length_of s) then record { segment = s; distance = distance }
-    else place_from next rest (distance - fine_length_of s)
+    if nat_le distance (fine_length_of s) then place_on s distance else place_from next rest (distance - fine_length_of s)
 
--- the corners strictly between two distances; one that was passed counts as 0 from there on
+-- the corners strictly between two distances; a distance that was passed counts as 0 from there on, and
+-- the end of a line is no corner
 abbrev pub corners_from : Segment → List Segment → ℕ → ℕ → List Spot
 corners_from s [] from to = []
 corners_from s (next ∷ rest) from to =
@@ -100,7 +103,8 @@ point_at place = record {
 
 -- the points of a dash: where it begins, the corners that it passes, where it ends
 abbrev pub dash_points : Segment → List Segment → ℕ → ℕ → List Spot
-dash_points s rest from to = point_at (place_from s rest from) ∷ corners_from s rest from to ++ point_at (place_from s rest to) ∷ []
+dash_points s rest from to =
+    point_at (place_from s rest from) ∷ corners_from s rest from to ++ point_at (place_from s rest to) ∷ []
 
 -- what a dash of length 0 paints: a disc, or both square caps of its segment
 abbrev pub dot_dash : Cap → ℤ → Place → List Shape
@@ -127,10 +131,14 @@ abbrev pub dashes_of : PenValue → List Segment → List Dash
 dashes_of pen [] = []
 dashes_of pen (s ∷ rest) = dashes_by (phase_of pen.dashes pen.offset) (total_of (s ∷ rest)) pen.dashes
 
+-- the shapes of the dashes of a chain
+abbrev pub chain_shapes : PenValue → Segment → List Segment → List Shape
+chain_shapes pen s rest = flat_map (dash_shapes pen s rest) (dashes_of pen (s ∷ rest))
+
 -- the shapes of a line under a pen with dashes
 abbrev pub dashed_by : PenValue → LineValue → List Segment → List Shape
 dashed_by pen line [] = dot pen line.points line.closed
-dashed_by pen line (s ∷ rest) = flat_map (dash_shapes pen s rest) (dashes_of pen (s ∷ rest))
+dashed_by pen line (s ∷ rest) = chain_shapes pen s rest
 
 unfoldable pub dashed_shapes : PenValue → LineValue → List Shape
 dashed_shapes pen line = dashed_by pen line (segments_of line)

@@ -1,8 +1,7 @@
 -- Outlines of lines (PostScript Language Reference, third edition, 8.2 `stroke`, `setlinecap`). All
 -- polygons of a stroke go by the nonzero winding number rule. Own rules: each segment, join and cap is
 -- a shape of its own; the pen is round under every matrix.
-use Rattle.std.specs.Prelude.{ℕ, ◌≡◌, Bool, not, ◌||◌, ℤ, List, [], ◌∷◌, ◌++◌, length, map, nat_le, if◌then◌else◌}
-use Rattle.std.specs.List.{flat_map}
+use Rattle.std.specs.Prelude.{Bool, ◌||◌, ℤ, List, [], ◌∷◌, ◌++◌, length, map, nat_le, if◌then◌else◌}
 use Rattle.press_fault.specs.Plane.{Spot}
 use Rattle.page_model.specs.declared.shape.Shape.{Shape}
 use Rattle.geo_path.specs.Flat.{LineValue}
@@ -40,7 +39,8 @@ start_cap Square half s = square_start s.from (across half s) (along half s) ∷
 
 -- the caps of an open line
 abbrev pub caps : PenValue → Bool → Segment → List Segment → List Shape
-caps pen closed s rest = if closed then [] else end_cap pen.cap pen.half (last_of s rest) ++ start_cap pen.cap pen.half s
+caps pen closed s rest =
+    if closed then [] else end_cap pen.cap pen.half (last_of s rest) ++ start_cap pen.cap pen.half s
 
 -- a line whose points are all the same: a disc under a round cap, where it is closed or isn't a move alone
 abbrev pub dot_by : Cap → ℤ → Spot → List Shape
@@ -56,11 +56,9 @@ dot pen (p ∷ rest) closed = if closed || nat_le 1 (length rest) then dot_by pe
 abbrev pub shapes_by : PenValue → LineValue → List Segment → List Shape
 shapes_by pen line [] = dot pen line.points line.closed
 shapes_by pen line (s ∷ rest) =
-    map (body pen.half) (s ∷ rest) ++ between (join_shapes pen) s (rest ++ closing line.closed s) ++ caps pen line.closed s rest
+    map (body pen.half) (s ∷ rest)
+    ++ between (join_shapes pen) s (rest ++ closing line.closed s)
+    ++ caps pen line.closed s rest
 
 unfoldable pub line_shapes : PenValue → LineValue → List Shape
 line_shapes pen line = shapes_by pen line (segments_of line)
-
--- the shapes of lines under a solid pen
-abbrev pub solid_outline : PenValue → List LineValue → List Shape
-solid_outline pen lines = flat_map (line_shapes pen) lines

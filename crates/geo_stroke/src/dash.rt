@@ -2,19 +2,20 @@
 //!
 //! Distances count 1/65536 of a dot from the start of the first cycle of the pattern: a line goes from
 //! `phase` to `phase + total`.
-ghost use Rattle.std.specs.Prelude.{◌≡◌, ℕ, ◌≤◌, ◌<◌, ◌^◌, ◌+◌, ◌-◌, ◌*◌, ◌/◌, [], ◌∷◌, ◌++◌, false, pos, length, OnOk, OnErr, IfOk, unsigned_abs, MatchOption};
+ghost use Rattle.std.specs.Prelude.{◌≡◌, ℕ, ◌≤◌, ◌<◌, ◌^◌, ◌+◌, ◌-◌, ◌*◌, ◌/◌, [], ◌∷◌, ◌++◌, false, pos, length, OnOk, OnErr, IfOk, unsigned_abs};
 ghost use Rattle.std.specs.Int.{int_rem_euclid};
 ghost use Rattle.std.specs.List.{sum};
 ghost use Rattle.geo_stroke.specs.Pen.{is_solid};
 ghost use Rattle.geo_stroke.specs.Dash.{is_even, cycle_length, phase_of, is_made, dash_on, dash_of, dashes_from, cycle_dashes, cycles_of, dashes_by};
-ghost use Rattle.geo_stroke.specs.Cursor.{later_by};
+ghost use Rattle.geo_stroke.specs.Cursor.{later_by, LeavesRoom};
 
 use press_fault::Mem;
+use press_nums::Wide;
 use std::alloc::Global;
 
 /// A dash on a line, by the distances from the line's start at which it begins and ends, and whether
 /// its length in the pattern is 0.
-#[derive(Clone, Copy, Debug, PartialEq, Eq)]
+#[derive(Clone, Copy)]
 pub(crate) struct Dash {
     pub from: u128,
     pub to: u128,
@@ -37,7 +38,7 @@ impl Dash {
 }
 
 /// A line under a pattern of dashes: how far into the first cycle it begins, and how long it is.
-#[derive(Clone, Copy, Debug, PartialEq, Eq)]
+#[derive(Clone, Copy)]
 pub(crate) struct Extent {
     pub phase: u128,
     pub total: u128,
@@ -78,13 +79,13 @@ pub(crate) fn cycle_length(dashes: &[u64]) -> u128
 }
 
 /// How far into a cycle of this length an offset lies.
-pub(crate) fn phase(offset: i64, cycle: u128) -> u128
+pub(crate) fn phase(offset: Wide, cycle: u128) -> u128
     requires some { 0 < cycle }
     requires bound { cycle ≤ 2 ^ 70 }
     ensures value { result ≡ unsigned_abs (int_rem_euclid offset (pos cycle)) }
     ensures bound { result < cycle }
 {
-    i128::from(offset).rem_euclid(cycle as i128) as u128
+    offset.to_i128().rem_euclid(cycle as i128) as u128
 }
 
 /// Whether a dash is made that is `size` long from a distance on.
@@ -241,7 +242,7 @@ pub(crate) fn room_behind(line: Extent, dashes: &[u64], room: u32) -> Option<u32
     requires total { line.total ≤ 2 ^ 107 }
     requires few { length dashes.now ≤ 32 }
     requires some { is_solid dashes.now ≡ false }
-    ensures { MatchOption result (room < length (dashes_by line.phase line.total dashes.now)) (λ left. left + length (dashes_by line.phase line.total dashes.now) ≡ room) }
+    ensures { LeavesRoom room (length (dashes_by line.phase line.total dashes.now)) result }
 {
     let mut left = room;
     let cycle = cycle_length(dashes);

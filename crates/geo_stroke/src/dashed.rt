@@ -1,12 +1,12 @@
 //! The outline of one line under a pen with dashes.
-ghost use Rattle.std.specs.Prelude.{◌≡◌, ◌≤◌, ◌<◌, ◌^◌, ◌+◌, ◌*◌, [], ◌∷◌, ◌++◌, false, length, OnOk, OnErr, IfOk, MatchOption};
+ghost use Rattle.std.specs.Prelude.{◌≡◌, ◌≤◌, ◌<◌, ◌^◌, ◌+◌, ◌*◌, [], ◌∷◌, ◌++◌, false, length, OnOk, OnErr, IfOk};
 ghost use Rattle.std.specs.List.{All, flat_map};
 ghost use Rattle.geo_matrix.specs.Affine.{IsNear};
 ghost use Rattle.geo_path.specs.Flat.{IsNearLine};
 ghost use Rattle.geo_stroke.specs.Pen.{is_solid};
 ghost use Rattle.geo_stroke.specs.Segment.{fine_length_of, between, closing, segment_between, segments_of};
-ghost use Rattle.geo_stroke.specs.Dash.{phase_of, dash_shapes, dashed_shapes, dashes_of, dot_dash, line_dashes, total_of};
-ghost use Rattle.geo_stroke.specs.Cursor.{IsOnLine};
+ghost use Rattle.geo_stroke.specs.Dash.{phase_of, place_on, dash_shapes, chain_shapes, dashed_shapes, dot_dash, line_dashes, total_of};
+ghost use Rattle.geo_stroke.specs.Cursor.{IsOnLine, LeavesRoom};
 
 use crate::dash::{Dash, Extent, cycle_length, dashes_on, phase, room_behind};
 use crate::line::{Segments, push_dot, push_line};
@@ -47,7 +47,7 @@ fn push_pattern(
     rest: &[Segment],
 ) -> Mem<()>
     requires { is_solid pen.now.dashes ≡ false }
-    ensures ok { OnOk result (shapes.new ≡ shapes.old ++ flat_map (dash_shapes pen.now first rest.now) (dashes_of pen.now (first ∷ rest.now))) }
+    ensures ok { OnOk result (shapes.new ≡ shapes.old ++ chain_shapes pen.now first rest.now) }
 {
     let extent = Extent {
         phase: pen_phase(pen),
@@ -63,7 +63,7 @@ fn pen_phase(pen: &Pen) -> u128
     ensures value { result ≡ phase_of pen.now.dashes pen.now.offset }
     ensures bound { result ≤ 2 ^ 70 }
 {
-    phase(pen.offset, cycle_length(pen.dashes.items()))
+    phase(pen.wide_offset(), cycle_length(pen.dashes.items()))
 }
 
 /// Adds the shapes of dashes on a chain of segments.
@@ -78,6 +78,7 @@ fn push_dashes(
     requires { All (IsOnLine (total_of (first ∷ all.now))) dashes.now }
     ensures ok { OnOk result (shapes.new ≡ shapes.old ++ flat_map (dash_shapes pen.now first all.now) dashes.now) }
 {
+    // The cursor's parts stand apart, since the proof doesn't follow a slice in a struct round a loop.
     let mut here = first;
     let mut rest = all;
     let mut passed = 0;
@@ -127,7 +128,7 @@ fn push_dot_dash(
     distance: u128,
 ) -> Mem<()>
     requires { distance ≤ fine_length_of s }
-    ensures ok { OnOk result (shapes.new ≡ shapes.old ++ dot_dash pen.now.cap pen.now.half (record { segment = s; distance = distance })) }
+    ensures ok { OnOk result (shapes.new ≡ shapes.old ++ dot_dash pen.now.cap pen.now.half (place_on s distance)) }
 {
     let half = pen.wide_half();
     let point = point_at(s, distance);
@@ -147,7 +148,7 @@ fn push_dot_dash(
 pub(crate) fn room_behind_line(pen: &Pen, line: &Line, room: u32) -> Option<u32>
     requires near { IsNearLine line.now }
     requires dashes { is_solid pen.now.dashes ≡ false }
-    ensures { MatchOption result (room < length (line_dashes pen.now line.now)) (λ left. left + length (line_dashes pen.now line.now) ≡ room) }
+    ensures { LeavesRoom room (length (line_dashes pen.now line.now)) result }
 {
     let sizes = sizes_of(line);
     if sizes.count == 0 {
@@ -161,7 +162,7 @@ pub(crate) fn room_behind_line(pen: &Pen, line: &Line, room: u32) -> Option<u32>
 }
 
 /// How many segments a line has, and how long they are together, in 1/65536 of a dot.
-#[derive(Clone, Copy, Debug, PartialEq, Eq)]
+#[derive(Clone, Copy)]
 struct Sizes {
     count: u128,
     total: u128,
@@ -179,7 +180,7 @@ fn sizes_of(line: &Line) -> Sizes
     }
 }
 
-/// The segments from a point through others, and back to it where they are closed.
+/// The same of the segments from a point through others, and back to it where they are closed.
 #[tactic(auto, using(crate::proofs::PlaceLemmas::total_append))]
 fn sizes_through(first: Point, rest: &[Point], closed: bool) -> Sizes
     requires first { IsNear first }

@@ -4,7 +4,7 @@ ghost use Rattle.std.specs.List.{All};
 ghost use Rattle.press_nums.specs.Rounding.{div_round};
 ghost use Rattle.geo_matrix.specs.Affine.{IsNear};
 ghost use Rattle.geo_stroke.specs.Segment.{fine_length_of};
-ghost use Rattle.geo_stroke.specs.Dash.{way_of, point_at, place_from, corners_from, dash_points, total_of};
+ghost use Rattle.geo_stroke.specs.Dash.{place_on, point_at, dash_points, total_of};
 ghost use Rattle.geo_stroke.specs.Cursor.{IsCursor, IsAhead};
 
 use crate::segment::Segment;
@@ -28,7 +28,7 @@ pub(crate) fn total(first: Segment, rest: &[Segment]) -> u128
 /// The point at a distance from a segment's start.
 pub(crate) fn point_at(s: Segment, distance: u128) -> Point
     requires { distance ≤ fine_length_of s }
-    ensures value { result ≡ point_at (record { segment = s; distance = distance }) }
+    ensures value { result ≡ point_at (place_on s distance) }
     ensures near { IsNear result }
 {
     let whole = s.fine_length();
@@ -59,7 +59,8 @@ fn following<'a>(
     distance: u128,
 ) -> Option<(&'a Segment, &'a [Segment])>
     requires { distance ≤ total_of (s ∷ rest.now) }
-    ensures { MatchOption result (distance ≤ fine_length_of s) (λ p. (rest.now ≡ p.0.now ∷ p.1.now) × (fine_length_of s < distance)) }
+    ensures { MatchOption result (distance ≤ fine_length_of s)
+        (λ p. (rest.now ≡ p.0.now ∷ p.1.now) × (fine_length_of s < distance)) }
 {
     if distance <= s.extent() {
         None

@@ -10,7 +10,7 @@ use press_nums::{Wide, isqrt};
 use std::marker::Model;
 
 /// A segment of a line, from a point to another one; both are of a magnitude below 2^31 sub-dots.
-#[derive(Clone, Copy, Debug, PartialEq, Eq)]
+#[derive(Clone, Copy)]
 pub(crate) struct Segment {
     from: Point,
     to: Point,
@@ -159,7 +159,7 @@ pub(crate) fn segment_of(from: Point, to: Point) -> Option<Segment>
 }
 
 /// A way from one point to another, in sub-dots.
-#[derive(Clone, Copy, Debug, PartialEq, Eq)]
+#[derive(Clone, Copy)]
 pub(crate) struct Vector {
     pub x: Wide,
     pub y: Wide,

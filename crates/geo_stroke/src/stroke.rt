@@ -14,7 +14,7 @@ use press_fault::{Grow, Mem};
 use std::alloc::Global;
 
 /// How many dashes one stroke may have.
-const MOST_DASHES: u32 = 65536;
+const MAX_STROKE_DASHES: u32 = 65536;
 
 /// The shapes that the pen paints along lines, each by the nonzero winding number rule: line by line,
 /// or dash by dash, the bodies of its segments, its joins, its caps.
@@ -42,7 +42,7 @@ fn has_room(lines: &Lines, pen: &Pen) -> bool
     if pen.is_solid() {
         return true;
     }
-    let mut room = MOST_DASHES;
+    let mut room = MAX_STROKE_DASHES;
     for line in lines.items() {
         match room_behind_line(pen, line, room) {
             Some(left) => room = left,

@@ -1,4 +1,4 @@
-use Rattle.std.proofs.Common.{◌≡◌, ◌+◌, ◌≤◌, arith}
+use Rattle.std.proofs.Common.{arith}
 use Rattle.geo_stroke.proofs.PlaceLemmas.{ahead_on, cursor_on}
 use Rattle.geo_stroke.proofs.place.advance.Goals as goal
 

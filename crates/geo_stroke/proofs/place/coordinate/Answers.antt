@@ -1,5 +1,5 @@
 use Rattle.std.proofs.Common.{arith, ◌<◌, ◌^◌, ◌∙◌, ap, subst, sym, unsigned_abs}
-use Rattle.std.specs.Prelude.{◌+ℤ◌, ◌*ℤ◌, ℤ}
+use Rattle.std.specs.Prelude.{◌*ℤ◌, ℤ}
 use Rattle.std.proofs.lemmas.Int.{ints}
 use Rattle.geo_stroke.proofs.PlaceLemmas.{way_near}
 use Rattle.geo_stroke.proofs.place.coordinate.Goals as goal

@@ -1,4 +1,4 @@
-use Rattle.std.proofs.Common.{◌≡◌, ◌≤◌, ◌∷◌, ◌++◌, [], length}
+use Rattle.std.proofs.Common.{◌≡◌, ◌≤◌, ◌∷◌, ◌++◌, length}
 use Rattle.std.specs.List.{All}
 use Rattle.geo_matrix.specs.Affine.{IsNear}
 use Rattle.geo_stroke.specs.Dash.{dash_points, total_of}
