@@ -1,15 +1,15 @@
 -- Lengths of segments: that they are above 0, and at least as long as each step.
-use Rattle.std.proofs.Common.{◌≡◌, ℕ, zero, suc, ◌+◌, ◌*◌, ◌^◌, ◌<◌, ◌≤◌, ◌==◌, ◌&&◌, Bool, true, false, leb, arith, sym, refl}
+use Rattle.std.proofs.Common.{◌≡◌, ℕ, zero, suc, ◌+◌, ◌*◌, ◌<◌, ◌≤◌, ◌==◌, ◌&&◌, Bool, true, false, leb, arith, refl}
 use Rattle.std.proofs.lemmas.Bool.{leb-true, leb-false}
 use Rattle.std.proofs.Math.Nat.{mul-le-mul_left}
 use Rattle.press_nums.specs.Roots.{IsRoot}
 use Rattle.press_nums.proofs.RootLemmas.{square_is}
 
-by_bool : {P : Type 0} (b : Bool) → (b ≡ true → P) → (b ≡ false → P) → P
+pub by_bool : {P : Type 0} (b : Bool) → (b ≡ true → P) → (b ≡ false → P) → P
 by_bool true f g = f refl
 by_bool false f g = g refl
 
-by_le : {P : Type 0} (a b : ℕ) → (a ≤ b → P) → (b < a → P) → P
+pub by_le : {P : Type 0} (a b : ℕ) → (a ≤ b → P) → (b < a → P) → P
 by_le a b f g = by_bool (leb a b) (λ e. f (leb-true a b e)) (λ e. g (omega (arith, leb-false a b e)))
 
 -- a root is at least each number whose square fits

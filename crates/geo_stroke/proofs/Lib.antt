@@ -1,1 +1,4 @@
 pub mod LengthLemmas
+pub mod DashLemmas
+pub mod PlaceLemmas
+pub mod WithinLemmas

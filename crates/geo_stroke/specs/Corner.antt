@@ -39,16 +39,18 @@ outward a b v = if int_lt (pos 0) (cross_of a b) then turned v else v
 
 -- the triangle of the corner and the ends of the outer sides
 abbrev pub bevel : ℤ → Segment → Segment → Shape
-bevel half a b = polygon (a.to ∷ plus a.to (outward a b (across half a)) ∷ plus a.to (outward a b (across half b)) ∷ [])
+bevel half a b =
+    polygon (a.to ∷ plus a.to (outward a b (across half a)) ∷ plus a.to (outward a b (across half b)) ∷ [])
 
 -- the miter limit by its raw value, at most 1024
 abbrev pub limit_of : ℤ → ℤ
-limit_of miter = if int_le miter (pos 67108864) then miter else pos 67108864
+limit_of miter = if int_le miter (pos (1024 * 65536)) then miter else pos (1024 * 65536)
 
--- whether a miter is within the limit m: m^2 (1 + cos t) is at least 2, where the line turns by t
+-- whether a miter is within the limit m: m^2 (1 + cos t) is at least 2, where the line turns by t;
+-- m counts 1/65536, so m^2 counts 1/2^32
 abbrev pub is_within : ℤ → Segment → Segment → Bool
 is_within m a b =
-    int_le (pos (8589934592 * (length_of a * length_of b))) (m *ℤ m *ℤ (pos (length_of a * length_of b) +ℤ scalar_of a b))
+    int_le (pos (2 * 2 ^ 32 * (length_of a * length_of b))) (m *ℤ m *ℤ (pos (length_of a * length_of b) +ℤ scalar_of a b))
 
 -- half a width squared, and the scalar product of two vectors across: above 0 where the sides meet in front
 abbrev pub spread_of : ℤ → Spot → Spot → ℤ
@@ -81,13 +83,18 @@ has_miter pen a b =
 
 -- the corner, the ends of the outer sides, and where they meet
 abbrev pub miter : ℤ → Segment → Segment → Shape
-miter half a b = polygon (a.to ∷ plus a.to (outward a b (across half a)) ∷ plus a.to (outward a b (meeting half a b)) ∷ plus a.to (outward a b (across half b)) ∷ [])
+miter half a b = polygon (a.to
+    ∷ plus a.to (outward a b (across half a))
+    ∷ plus a.to (outward a b (meeting half a b))
+    ∷ plus a.to (outward a b (across half b))
+    ∷ [])
 
 -- what a join paints at a corner
 abbrev pub join_shapes_by : Join → PenValue → Segment → Segment → List Shape
 join_shapes_by Round pen a b = disc_at pen.half a.to ∷ []
 join_shapes_by Bevel pen a b = if is_straight a b then [] else bevel pen.half a b ∷ []
-join_shapes_by Miter pen a b = if is_straight a b then [] else (if has_miter pen a b then miter pen.half a b else bevel pen.half a b) ∷ []
+join_shapes_by Miter pen a b =
+    if is_straight a b then [] else (if has_miter pen a b then miter pen.half a b else bevel pen.half a b) ∷ []
 
 abbrev pub join_shapes : PenValue → Segment → Segment → List Shape
 join_shapes pen a b = join_shapes_by pen.join pen a b

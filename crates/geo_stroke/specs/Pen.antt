@@ -1,7 +1,7 @@
 -- Pens of strokes (PostScript Language Reference, third edition, 8.2 `setlinewidth`, `setlinecap`,
 -- `setlinejoin`, `setmiterlimit`, `setdash`). Own rule: a pen is round and its half width a whole
 -- number of sub-dots, 1/256 of a dot; lengths of dashes count 1/65536 of a dot.
-use Rattle.std.specs.Prelude.{ℕ, ◌==◌, Bool, zero, suc, ◌≤◌, ◌<◌, ◌^◌, ℤ, pos, negsuc, ◌≤ℤ◌, ◌<ℤ◌, unsigned_abs, List, length, Option, Some, None}
+use Rattle.std.specs.Prelude.{ℕ, ◌==◌, Bool, zero, suc, ◌≤◌, ◌<◌, ◌^◌, ℤ, pos, negsuc, ◌≤ℤ◌, unsigned_abs, List, length, Option, Some, None}
 use Rattle.std.specs.List.{All, list_all}
 use Rattle.geo_stroke.specs.declared.pen.Cap.{Cap}
 use Rattle.geo_stroke.specs.declared.pen.Cap.TheVariants as cap

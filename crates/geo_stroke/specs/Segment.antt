@@ -2,7 +2,7 @@
 -- third edition, 8.2 `stroke`). Points are in sub-dots, 1/256 of a dot, y downwards. Own rules: two
 -- equal points in a row are one; lengths are whole roots, rounded down; half a width along or across a
 -- segment is rounded once for each coordinate.
-use Rattle.std.specs.Prelude.{ℕ, ◌+◌, ◌*◌, ◌<◌, ◌≤◌, ◌^◌, ◌==◌, ◌≡◌, Bool, false, ◌&&◌, ℤ, pos, neg_ℤ, ◌+ℤ◌, ◌-ℤ◌, ◌*ℤ◌, ◌≤ℤ◌, unsigned_abs, List, [], ◌∷◌, ◌++◌, if◌then◌else◌}
+use Rattle.std.specs.Prelude.{ℕ, ◌+◌, ◌*◌, ◌≤◌, ◌^◌, ◌==◌, ◌≡◌, Bool, false, ◌&&◌, ℤ, pos, neg_ℤ, ◌+ℤ◌, ◌-ℤ◌, ◌*ℤ◌, ◌≤ℤ◌, unsigned_abs, List, [], ◌∷◌, ◌++◌, if◌then◌else◌}
 use Rattle.press_nums.specs.Rounding.{div_round}
 use Rattle.press_nums.specs.Roots.{root}
 use Rattle.press_fault.specs.Plane.{Spot}

@@ -111,7 +111,8 @@ fn miter(alloc: Global, half: Wide, a: Segment, b: Segment, tip: Vector) -> Mem<
 
 /// The way from the corner to the tip of its miter; `None` exactly where it has a bevel.
 fn miter_tip(pen: &Pen, a: Segment, b: Segment) -> Option<Vector>
-    ensures { MatchOption result (has_miter pen.now a b ≡ false) (λ tip. (has_miter pen.now a b ≡ true) × (tip ≡ meeting pen.now.half a b) × IsFar tip) }
+    ensures { MatchOption result (has_miter pen.now a b ≡ false)
+        (λ tip. (has_miter pen.now a b ≡ true) × (tip ≡ meeting pen.now.half a b) × IsFar tip) }
 {
     let half = pen.wide_half();
     if !is_within(limit(pen), a, b) {

@@ -5,16 +5,15 @@ ghost use Rattle.geo_matrix.specs.Affine.{IsNear};
 ghost use Rattle.geo_path.specs.Flat.{IsNearLine};
 ghost use Rattle.geo_stroke.specs.Segment.{IsHalf, between, closing, segment_between, segments_of, last_of};
 ghost use Rattle.geo_stroke.specs.Corner.{join_shapes};
-ghost use Rattle.geo_stroke.specs.Outline.{body, end_cap, start_cap, end_square, start_square, caps, dot_by, dot, shapes_by, line_shapes};
+ghost use Rattle.geo_stroke.specs.Outline.{body, end_cap, start_cap, caps, dot_by, dot, shapes_by, line_shapes};
 
 use crate::corner::push_join;
 use crate::pen::{Cap, Pen};
 use crate::segment::{Segment, minus, plus, segment_of};
-use crate::shapes::{disc_at, polygon};
+use crate::shapes::{disc_at, polygon, square_end, square_start};
 use geo_path::Line;
-use page_model::{Shape, Shapes};
+use page_model::Shapes;
 use press_fault::{Mem, Point};
-use press_nums::Wide;
 use std::alloc::Global;
 use std::marker::Model;
 
@@ -104,7 +103,7 @@ pub(crate) fn push_line(alloc: Global, shapes: &mut Shapes, pen: &Pen, line: &Li
 }
 
 /// Adds what a line paints whose points are all the same.
-fn push_dot(shapes: &mut Shapes, pen: &Pen, line: &Line) -> Mem<()>
+pub(crate) fn push_dot(shapes: &mut Shapes, pen: &Pen, line: &Line) -> Mem<()>
     requires { IsNearLine line.now }
     ensures ok { OnOk result (shapes.new ≡ shapes.old ++ dot pen.now line.now.points line.now.closed) }
 {
@@ -205,25 +204,8 @@ fn push_end_cap(alloc: Global, shapes: &mut Shapes, pen: &Pen, s: Segment) -> Me
     match pen.cap {
         Cap::Butt => Ok(()),
         Cap::Round => shapes.push(disc_at(half, s.to())),
-        Cap::Square => shapes.push(end_square(alloc, half, s)?),
+        Cap::Square => { shapes.push(square_end(alloc, s.to(), s.across(half), s.along(half))?) },
     }
-}
-
-fn end_square(alloc: Global, half: Wide, s: Segment) -> Mem<Shape>
-    requires { IsHalf half }
-    ensures { IfOk result (λ shape. shape ≡ end_square half s) }
-{
-    let n = s.across(half);
-    let e = s.along(half);
-    polygon(
-        alloc,
-        &[
-            plus(s.to(), n),
-            plus(s.to(), n.sum(e)),
-            plus(s.to(), e.difference(n)),
-            minus(s.to(), n),
-        ],
-    )
 }
 
 /// Adds what a cap paints where a line starts with a segment.
@@ -234,23 +216,8 @@ fn push_start_cap(alloc: Global, shapes: &mut Shapes, pen: &Pen, s: Segment) -> 
     match pen.cap {
         Cap::Butt => Ok(()),
         Cap::Round => shapes.push(disc_at(half, s.from())),
-        Cap::Square => shapes.push(start_square(alloc, half, s)?),
+        Cap::Square => {
+            shapes.push(square_start(alloc, s.from(), s.across(half), s.along(half))?)
+        },
     }
-}
-
-fn start_square(alloc: Global, half: Wide, s: Segment) -> Mem<Shape>
-    requires { IsHalf half }
-    ensures { IfOk result (λ shape. shape ≡ start_square half s) }
-{
-    let n = s.across(half);
-    let e = s.along(half);
-    polygon(
-        alloc,
-        &[
-            plus(s.from(), n),
-            plus(s.from(), n.difference(e)),
-            minus(s.from(), n.sum(e)),
-            minus(s.from(), n),
-        ],
-    )
 }

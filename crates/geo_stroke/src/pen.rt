@@ -102,8 +102,8 @@ impl Dashes {
         Ok(())
     }
 
-    /// Whether each length is 0, also where there are none.
-    pub fn are_nothing(&self) -> bool
+    /// Whether a line is solid: there are no lengths, or each is 0.
+    pub fn is_solid(&self) -> bool
         ensures { result ≡ is_solid self.now }
     {
         self.lengths.iter().all(|dash| *dash == 0)
@@ -150,7 +150,7 @@ impl Pen {
     pub fn is_solid(&self) -> bool
         ensures { result ≡ is_solid self.now.dashes }
     {
-        self.dashes.are_nothing()
+        self.dashes.is_solid()
     }
 
     /// Half the line's width in sub-dots, for sums and products.

@@ -10,7 +10,7 @@ use press_nums::{Wide, isqrt};
 use std::marker::Model;
 
 /// A segment of a line, from a point to another one; both are of a magnitude below 2^31 sub-dots.
-#[derive(Clone, Copy, Debug, PartialEq, Eq)]
+#[derive(Clone, Copy)]
 pub(crate) struct Segment {
     from: Point,
     to: Point,
@@ -90,6 +90,14 @@ impl Segment {
         Wide::of_size(u128::from(isqrt(self.square() * 65536)))
     }
 
+    /// Its length in 1/65536 of a dot, as a distance.
+    pub(crate) fn extent(self) -> u128
+        ensures value { result ≡ fine_length_of self }
+        ensures bound { result ≤ 2 ^ 41 }
+    {
+        self.fine_length().size()
+    }
+
     /// Half a line's width along it.
     pub(crate) fn along(self, half: Wide) -> Vector
         requires { IsHalf half }
@@ -151,7 +159,7 @@ pub(crate) fn segment_of(from: Point, to: Point) -> Option<Segment>
 }
 
 /// A way from one point to another, in sub-dots.
-#[derive(Clone, Copy, Debug, PartialEq, Eq)]
+#[derive(Clone, Copy)]
 pub(crate) struct Vector {
     pub x: Wide,
     pub y: Wide,

@@ -1,9 +1,10 @@
 //! Cases by hand, with values from the rules.
+ghost use Rattle.std.specs.Prelude.{◌<◌, ◌^◌};
 
 use super::*;
 use geo_path::{Lines, Path, PathFault};
 use page_model::{Shape, Shapes};
-use press_fault::Point;
+use press_fault::{Grow, Point};
 use press_nums::{Fix, Whole};
 use std::alloc::{AllocError, Global};
 use std::test::Fail;
@@ -55,21 +56,36 @@ fn corner(alloc: Global, x: i32, y: i32, end_x: i32, end_y: i32) -> Result<Lines
     Ok(path.flatten()?)
 }
 
-/// A pen of half a width with the cap and the join of these numbers, and a miter limit.
+/// A solid pen of half a width with the cap and the join of these numbers, and a miter limit.
 fn pen(alloc: Global, half: u32, cap: i32, join: i32, miter: i64) -> Result<Pen, &'static str> {
+    pen_of(half, cap, join, miter, Dashes::new(alloc), 0)
+}
+
+/// The same with dashes from an offset on.
+fn pen_of(
+    half: u32,
+    cap: i32,
+    join: i32,
+    miter: i64,
+    dashes: Dashes,
+    offset: i64,
+) -> Result<Pen, &'static str> {
     let cap = Cap::of(Whole::of(cap)).ok_or("no cap")?;
     let join = Join::of(Whole::of(join)).ok_or("no join")?;
     let miter = Fix::of_raw(miter).ok_or("no limit")?;
     if miter.raw() < 65536 || half < 128 || half > 1073741824 {
         return Err("too little");
     }
+    if offset.unsigned_abs() >= 0x4000_0000_0000_0000 {
+        return Err("too far");
+    }
     Ok(Pen {
         half: i64::from(half),
         cap,
         join,
         miter,
-        dashes: Dashes::new(alloc),
-        offset: 0,
+        dashes,
+        offset,
     })
 }
 
@@ -100,13 +116,13 @@ fn shown(alloc: Global, shapes: &Shapes) -> Result<String, AllocError> {
     Ok(text)
 }
 
-/// What a pen paints along lines.
+/// What a pen paints along lines; `limit` where it is refused.
 fn outlined(alloc: Global, lines: &Lines, pen: &Pen) -> Result<String, Fail> {
-    if !pen.is_solid() {
-        Err("dashes")?;
+    match outline(alloc, lines, pen) {
+        Ok(shapes) => Ok(shown(alloc, &shapes)?),
+        Err(Grow::LimitCheck) => Ok(String::from_str(alloc, "limit")?),
+        Err(Grow::NoMemory) => Err("out of memory")?,
     }
-    let shapes = outline(alloc, lines, pen).ok().ok_or("refused")?;
-    Ok(shown(alloc, &shapes)?)
 }
 
 /// What a solid pen two dots wide with a miter limit of 10 paints.
@@ -356,6 +372,309 @@ fn miters_stand_within_the_limit(rt: HostRuntime) -> Result<(), Fail> {
             shapes,
             "{name}"
         );
+    }
+    Ok(())
+}
+
+/// A dot, in the unit of dashes.
+const DOT: i64 = 65536;
+
+/// A dash or a gap by its letter: `a` is 0, and each next one is a dot longer; `z` is 66/65536.
+fn length(letter: u8) -> u64
+    ensures { result < 2 ^ 62 }
+{
+    match letter {
+        b'z' => 66,
+        _ => 65536 * u64::from(letter.saturating_sub(97)),
+    }
+}
+
+/// A pattern of dashes and gaps by their letters.
+fn pattern(alloc: Global, letters: &str) -> Result<Dashes, &'static str> {
+    let mut dashes = Dashes::new(alloc);
+    for letter in letters.as_bytes() {
+        dashes.push(length(*letter)).ok().ok_or("no dash")?;
+    }
+    Ok(dashes)
+}
+
+/// A pen two dots wide with dashes.
+fn dashed(
+    alloc: Global,
+    cap: i32,
+    join: i32,
+    dashes: &str,
+    offset: i64,
+) -> Result<Pen, &'static str> {
+    pen_of(256, cap, join, 655360, pattern(alloc, dashes)?, offset)
+}
+
+/// Where the dashes of a level line of six dots begin and end, in sub-dots.
+fn spans(alloc: Global, dashes: &str, offset: i64) -> Result<String, Fail> {
+    let pen = dashed(alloc, 0, 2, dashes, offset)?;
+    let shapes = outline(alloc, &drawn(alloc, "aa ga")?, &pen)
+        .ok()
+        .ok_or("refused")?;
+    let mut text = String::new(alloc);
+    for shape in shapes.items() {
+        if let Shape::Poly(rings) = shape {
+            for ring in rings.items() {
+                if let [from, to, _, _] = ring.items() {
+                    text.push_str(format!(in alloc; "{}-{} ", from.x, to.x)?.as_str())?;
+                }
+            }
+        }
+    }
+    Ok(text)
+}
+
+#[test]
+fn dashes_take_turns_from_the_offset_on(rt: HostRuntime) -> Result<(), Fail> {
+    // name, dashes and gaps, offset, the dashes of six dots
+    let cases = [
+        ("a dash first", "bb", 0, "0-256 512-768 1024-1280 "),
+        ("at a gap", "bb", DOT, "256-512 768-1024 1280-1536 "),
+        (
+            "at the end of a gap",
+            "bb",
+            2 * DOT,
+            "0-256 512-768 1024-1280 ",
+        ),
+        ("within a dash", "dc", DOT, "0-512 1024-1536 "),
+        ("backwards", "bc", -DOT, "256-512 1024-1280 "),
+        (
+            "far",
+            "bb",
+            2305843009213693952 + DOT,
+            "256-512 768-1024 1280-1536 ",
+        ),
+        ("far back", "bc", -2305843009213693952, "512-768 1280-1536 "),
+        ("a dash longer than the line", "j", 0, "0-1536 "),
+        ("a gap longer than the line", "bj", DOT, ""),
+    ];
+    for (name, dashes, offset, found) in cases {
+        assert_eq!(rt;
+            spans(rt.alloc(), dashes, offset)?.as_str(),
+            found,
+            "{name}"
+        );
+    }
+    Ok(())
+}
+
+#[test]
+fn an_odd_pattern_changes_dashes_and_gaps(rt: HostRuntime) -> Result<(), Fail> {
+    // name, dashes and gaps, offset, the dashes of six dots
+    let cases = [
+        ("one length", "c", 0, "0-512 1024-1536 "),
+        ("one length, from its gap", "c", 2 * DOT, "512-1024 "),
+        ("three lengths", "bbc", 0, "0-256 512-1024 1280-1536 "),
+        (
+            "three lengths, the second time",
+            "bbc",
+            4 * DOT,
+            "256-512 1024-1280 ",
+        ),
+        (
+            "three lengths, backwards",
+            "bbc",
+            -4 * DOT,
+            "256-512 1024-1280 ",
+        ),
+        ("solid, of no length", "aaa", 0, "0-1536 "),
+        ("solid, empty", "", DOT, "0-1536 "),
+    ];
+    for (name, dashes, offset, found) in cases {
+        assert_eq!(rt;
+            spans(rt.alloc(), dashes, offset)?.as_str(),
+            found,
+            "{name}"
+        );
+    }
+    Ok(())
+}
+
+/// What a pen two dots wide with dashes and bevels paints.
+fn dotted(
+    alloc: Global,
+    cap: i32,
+    dashes: &str,
+    offset: i64,
+    letters: &str,
+) -> Result<String, Fail> {
+    let pen = dashed(alloc, cap, 2, dashes, offset)?;
+    outlined(alloc, &drawn(alloc, letters)?, &pen)
+}
+
+#[test]
+fn dashes_of_no_length_stand_on_the_line(rt: HostRuntime) -> Result<(), Fail> {
+    // name, cap, dashes and gaps, offset in dots, points, the shapes
+    let cases = [
+        (
+            "at both ends",
+            1,
+            "ac",
+            0,
+            "aa ea",
+            "0,0 r256 ; 512,0 r256 ; 1024,0 r256 ; ",
+        ),
+        ("butt", 0, "ac", 0, "aa ea", ""),
+        (
+            "square, at the start",
+            2,
+            "aj",
+            0,
+            "aa ea",
+            "0,256 256,256 256,-256 0,-256 ; 0,256 -256,256 -256,-256 0,-256 ; ",
+        ),
+        (
+            "square, along the segment that ends at a corner",
+            2,
+            "aj",
+            7,
+            "aa ca cc",
+            "512,256 768,256 768,-256 512,-256 ; 512,256 256,256 256,-256 512,-256 ; ",
+        ),
+        (
+            "square, along the segment behind a corner",
+            2,
+            "aj",
+            6,
+            "aa ca ce",
+            "256,256 256,512 768,512 768,256 ; 256,256 256,0 768,0 768,256 ; ",
+        ),
+        ("of this cycle", 1, "ccac", 4, "aa ba", "0,0 r256 ; "),
+        (
+            "not of a cycle before",
+            1,
+            "caa",
+            0,
+            "aa ba",
+            "0,256 256,256 256,-256 0,-256 ; 256,0 r256 ; 0,0 r256 ; ",
+        ),
+        ("a line of one point", 1, "ac", 0, "ab ab", "0,256 r256 ; "),
+        (
+            "a closed line of one point",
+            1,
+            "bj",
+            5,
+            "ab !",
+            "0,256 r256 ; ",
+        ),
+    ];
+    for (name, cap, dashes, offset, letters, shapes) in cases {
+        let found = dotted(rt.alloc(), cap, dashes, offset * DOT, letters)?;
+        assert_eq!(rt; found.as_str(), shapes, "{name}");
+    }
+    Ok(())
+}
+
+#[test]
+fn dashes_too_short_to_be_seen_are_points(rt: HostRuntime) -> Result<(), Fail> {
+    // name, cap, the shapes of one dash of 66/65536 of a dot
+    let cases = [
+        ("butt", 0, ""),
+        ("round", 1, "512,512 r256 ; "),
+        ("square", 2, ""),
+    ];
+    for (name, cap, shapes) in cases {
+        assert_eq!(rt;
+            dotted(rt.alloc(), cap, "zk", 0, "cc dc")?.as_str(),
+            shapes,
+            "{name}"
+        );
+    }
+    Ok(())
+}
+
+/// What a pen two dots wide with dashes and butt caps paints.
+fn turning(alloc: Global, join: i32, dashes: &str, letters: &str) -> Result<String, Fail> {
+    let pen = dashed(alloc, 0, join, dashes, 0)?;
+    outlined(alloc, &drawn(alloc, letters)?, &pen)
+}
+
+#[test]
+fn dashes_go_round_corners(rt: HostRuntime) -> Result<(), Fail> {
+    // name, join, dashes and gaps, points, the shapes
+    let cases = [
+        (
+            "over a corner",
+            1,
+            "dj",
+            "aa ca ce",
+            "0,256 512,256 512,-256 0,-256 ; 256,0 256,256 768,256 768,0 ; 512,0 r256 ; ",
+        ),
+        (
+            "up to a corner",
+            1,
+            "cj",
+            "aa ca ce",
+            "0,256 512,256 512,-256 0,-256 ; ",
+        ),
+        (
+            "from a corner",
+            1,
+            "bbcj",
+            "aa ca ce",
+            "0,256 256,256 256,-256 0,-256 ; 256,0 256,512 768,512 768,0 ; ",
+        ),
+        (
+            "over a corner, with a miter",
+            0,
+            "dj",
+            "aa ca ce",
+            "0,256 512,256 512,-256 0,-256 ; 256,0 256,256 768,256 768,0 ; 512,0 512,-256 768,-256 768,0 ; ",
+        ),
+        (
+            "through the closing segment, and not on from there",
+            2,
+            "dc",
+            "aa ca cc ac !",
+            "0,256 512,256 512,-256 0,-256 ; 256,0 256,256 768,256 768,0 ; 512,0 512,-256 768,0 ; 256,256 0,256 0,768 256,768 ; 256,512 256,0 -256,0 -256,512 ; 0,512 0,768 -256,512 ; ",
+        ),
+        (
+            "each line from the offset",
+            1,
+            "bj",
+            "aa ca | ac cc",
+            "0,256 256,256 256,-256 0,-256 ; 0,768 256,768 256,256 0,256 ; ",
+        ),
+    ];
+    for (name, join, dashes, letters, shapes) in cases {
+        assert_eq!(rt;
+            turning(rt.alloc(), join, dashes, letters)?.as_str(),
+            shapes,
+            "{name}"
+        );
+    }
+    Ok(())
+}
+
+/// What two level lines of so many dots paint under butt caps, with a dash of no length each dot.
+fn many(alloc: Global, first: i32, second: i32) -> Result<String, Fail> {
+    let pen = dashed(alloc, 0, 0, "ab", 0)?;
+    let mut path = Path::new(alloc);
+    add(&mut path, true, 0, 0)?;
+    add(&mut path, false, first.wrapping_mul(256), 0)?;
+    if second > 0 {
+        add(&mut path, true, 0, 0)?;
+        add(&mut path, false, second.wrapping_mul(256), 0)?;
+    }
+    outlined(alloc, &path.flatten()?, &pen)
+}
+
+#[test]
+fn a_stroke_has_up_to_65536_dashes(rt: HostRuntime) -> Result<(), Fail> {
+    // name, dots of the first line and of the second, the shapes
+    let cases = [
+        ("65,536 dashes", 65535, 0, ""),
+        ("one more", 65536, 0, "limit"),
+        ("65,536 dashes of two lines", 32767, 32767, ""),
+        ("one more of two lines", 32767, 32768, "limit"),
+        ("many more", 4000000, 1, "limit"),
+    ];
+    for (name, first, second, shapes) in cases {
+        assert_eq!(rt; many(rt.alloc(), first, second)?.as_str(), shapes, "{name}");
     }
     Ok(())
 }

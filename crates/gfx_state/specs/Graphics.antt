@@ -1,7 +1,7 @@
 -- The graphics state, its saved copies, and the page that is painted
 -- (PostScript Language Reference, third edition, 4.2 Graphics State and 8.2 Graphics State Operators).
 use Rattle.std.specs.Prelude.{ℕ, ℤ, pos, neg_ℤ, int_lt, unsigned_abs, ◌+◌, ◌*◌, ◌&&◌, List, [], ◌∷◌, ◌++◌, length, reverse, take, slice_get, Option, Some, None, Result, Ok, Err, nat_lt, nat_le, Bool, if◌then◌else◌}
-use Rattle.std.specs.Option.{option_map}
+use Rattle.std.specs.Option.{option_map, option_and_then}
 use Rattle.press_nums.specs.Rounding.{div_round}
 use Rattle.press_nums.specs.Fix.{fix_of}
 use Rattle.press_fault.specs.Plane.{Spot, Channels}
@@ -9,8 +9,9 @@ use Rattle.geo_matrix.specs.Affine.{Affine, identity}
 use Rattle.geo_matrix.specs.Product.{concat_of}
 use Rattle.geo_path.specs.declared.path.PathFault.{PathFault}
 use Rattle.geo_path.specs.Path.{PathValue, count_of}
-use Rattle.geo_path.specs.Flat.{lines_of, rings_of}
-use Rattle.geo_stroke.specs.Pen.{cap_of, join_of}
+use Rattle.geo_path.specs.Flat.{LineValue, lines_of, rings_of}
+use Rattle.geo_stroke.specs.Pen.{PenValue, cap_of, join_of}
+use Rattle.geo_stroke.specs.Dash.{dash_count, outline_of}
 use Rattle.page_model.specs.Marking.{Marking, Flatly}
 use Rattle.page_model.specs.Page.{Sheet}
 use Rattle.page_model.specs.declared.shape.Rule.{Rule}
@@ -23,6 +24,7 @@ use Rattle.gfx_state.specs.declared.colour.Space.{Space}
 use Rattle.gfx_state.specs.declared.colour.Space.TheVariants.{Gray}
 use Rattle.gfx_state.specs.Colour.{codes_of, first_colour}
 use Rattle.gfx_state.specs.Lines.{LineParameters, initial_line}
+use Rattle.gfx_state.specs.Stroke.{pen_of}
 use Rattle.gfx_state.specs.Points.{ring_points, all_points, mark_points}
 
 -- a page's size in dots, and the dots of an inch
@@ -231,6 +233,18 @@ inked g (shape ∷ rest) =
     if has_room g (all_points (shape ∷ rest))
     then Some (record g { marks = g.marks ++ mark_with g.state Nonzero (shape ∷ rest) ∷ [] })
     else None
+
+-- the shapes that a pen paints along lines, where it makes at most 65,536 dashes
+abbrev pub outlined : List LineValue → PenValue → Option (List Shape)
+outlined lines pen = if nat_lt 65536 (dash_count pen lines) then None else Some (outline_of pen lines)
+
+-- the shapes of a stroke of the path
+abbrev pub stroke_of : GraphicsState → Option (List Shape)
+stroke_of state = option_and_then (outlined (lines_of state.path)) (pen_of state.matrix state.line)
+
+-- the page where the path is stroked, and the path is empty then
+abbrev pub stroked : Graphics → Option Graphics
+stroked g = option_map (λ page. with_path page no_path) (option_and_then (inked g) (stroke_of g.state))
 
 -- the page as it is given
 abbrev pub page_of : Graphics → Sheet

@@ -161,7 +161,7 @@ fn a_page_of_another_size_starts_anew(rt: HostRuntime) -> Result<(), Fail> {
 }
 
 /// Draws a path of 65,536 points, which are 1,398,081 where its curves are cut into pieces.
-fn draw_most(gfx: &mut Gfx) -> Result<(), PathFault> {
+pub(crate) fn draw_most(gfx: &mut Gfx) -> Result<(), PathFault> {
     let far = Point::new(2_000_000, 0);
     gfx.move_to(dot(0, 0))?;
     for _ in 0..21_845 {

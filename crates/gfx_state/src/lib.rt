@@ -25,6 +25,7 @@ mod points;
 mod state;
 #[cfg(test)]
 mod stroked;
+mod strokes;
 #[cfg(test)]
 mod worked;
 

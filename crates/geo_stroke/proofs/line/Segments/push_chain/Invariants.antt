@@ -1,4 +1,4 @@
-use Rattle.std.proofs.Common.{◌≡◌, ◌∷◌, ◌++◌, drop}
+use Rattle.std.proofs.Common.{◌≡◌, ◌++◌, drop}
 use Rattle.geo_matrix.specs.Affine.{IsNear}
 use Rattle.geo_stroke.specs.Segment.{between, closing, segment_between}
 use Rattle.geo_stroke.proofs.line.Segments.push_chain.Given as goal

@@ -1,7 +1,7 @@
 use Rattle.std.proofs.Common.{◌≡◌, take}
 use Rattle.std.specs.List.{flat_map}
 use Rattle.geo_stroke.specs.Outline.{line_shapes}
-use Rattle.geo_stroke.proofs.stroke.outline.Given as goal
+use Rattle.geo_stroke.proofs.stroke.solid_outline.Given as goal
 
 -- the shapes of the lines so far
 abbrev pub invariant-loop-line : goal.invariant-loop-line
