@@ -227,9 +227,9 @@ filled g rule =
     else Some (with_path g no_path)
 
 -- the page with a mark of the shapes of a stroke, if there are any, where it has room
-abbrev pub inked : Graphics → List Shape → Option Graphics
-inked g [] = Some g
-inked g (shape ∷ rest) =
+abbrev pub marked : Graphics → List Shape → Option Graphics
+marked g [] = Some g
+marked g (shape ∷ rest) =
     if has_room g (all_points (shape ∷ rest))
     then Some (record g { marks = g.marks ++ mark_with g.state Nonzero (shape ∷ rest) ∷ [] })
     else None
@@ -244,7 +244,7 @@ stroke_of state = option_and_then (outlined (lines_of state.path)) (pen_of state
 
 -- the page where the path is stroked, and the path is empty then
 abbrev pub stroked : Graphics → Option Graphics
-stroked g = option_map (λ page. with_path page no_path) (option_and_then (inked g) (stroke_of g.state))
+stroked g = option_map (λ page. with_path page no_path) (option_and_then (marked g) (stroke_of g.state))
 
 -- the page as it is given
 abbrev pub page_of : Graphics → Sheet

@@ -44,6 +44,7 @@ dashes_of (Some dashes) = dashes.value
 abbrev pub is_negative : ℤ → Bool
 is_negative dash = int_lt dash (pos 0)
 
+-- whether a length is 0
 abbrev pub is_zero : ℤ → Bool
 is_zero dash = unsigned_abs dash == 0
 

@@ -1,7 +1,7 @@
 //! Marks that are added to the page.
 ghost use Rattle.std.specs.Prelude.{◌≡◌, ◌↔◌, ◌∷◌, ◌++◌, true, Some, None, OnOk, OnErr, IfOk, IsErrOf, []};
 ghost use Rattle.std.specs.Arc.{arc_value};
-ghost use Rattle.gfx_state.specs.Graphics.{has_room, painted, filled, inked, mark_with};
+ghost use Rattle.gfx_state.specs.Graphics.{has_room, painted, filled, marked, mark_with};
 ghost use Rattle.gfx_state.specs.Points.{ring_points, all_points};
 
 use crate::gfx::Gfx;
@@ -18,7 +18,8 @@ const MARKS: usize = 1_000_000;
 const POINTS: u64 = 4_194_304;
 
 impl Gfx {
-    /// Adds a mark of rings in the current colour, refused exactly where the page has no room for it.
+    /// Adds a mark of rings in the current colour, refused exactly where the page has no room for
+    /// it.
     pub fn mark_rings(&mut self, rule: Rule, rings: Rings) -> Result<(), Grow>
         ensures ok { OnOk result (painted self.old rule rings ≡ Some self.new) }
         ensures limit { IsErrOf result Grow.LimitCheck ↔ (painted self.old rule rings ≡ None) }
@@ -63,11 +64,11 @@ impl Gfx {
         self.marks.items().len() < MARKS && points <= POINTS - self.points
     }
 
-    /// Adds a mark of the shapes of a stroke, if there are any, refused exactly where the page has no
-    /// room for it.
-    pub(crate) fn ink(&mut self, shapes: Shapes) -> Result<(), Grow>
-        ensures ok { OnOk result (inked self.old shapes ≡ Some self.new) }
-        ensures limit { IsErrOf result Grow.LimitCheck ↔ (inked self.old shapes ≡ None) }
+    /// Adds a mark of the shapes of a stroke, if there are any, refused exactly where the page has
+    /// no room for it.
+    pub(crate) fn mark_shapes(&mut self, shapes: Shapes) -> Result<(), Grow>
+        ensures ok { OnOk result (marked self.old shapes ≡ Some self.new) }
+        ensures limit { IsErrOf result Grow.LimitCheck ↔ (marked self.old shapes ≡ None) }
         ensures err { OnErr result (self.new ≡ self.old) }
     {
         if shapes.items().is_empty() {

@@ -119,11 +119,11 @@ fn a_stroke_is_one_mark_and_empties_the_path(rt: HostRuntime) -> Result<(), Fail
 
 /// What a stroke of a line of so many sub-dots answers, and the points of the path then. Dashes of
 /// length 0 stand a dot apart.
-fn stroked(rt: &HostRuntime, line: i64, width: i64) -> Result<(Result<(), Grow>, u32), Fail> {
+fn stroked(rt: &HostRuntime, line: i32, width: i64) -> Result<(Result<(), Grow>, u32), Fail> {
     let mut gfx = drawn(rt, 1, width, 0, 0)?;
     let _ = gfx.set_dash(&[number(0), number(65536)], number(0));
     gfx.move_to(Point::new(0, 0))?;
-    gfx.line_to(Point::new(line, 0))?;
+    gfx.line_to(Point::new(i64::from(line), 0))?;
     let answer = gfx.mark_stroke();
     Ok((answer, gfx.path().count()))
 }

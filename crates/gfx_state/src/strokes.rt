@@ -15,14 +15,15 @@ impl Gfx {
     ///
     /// One mark of the shapes of all subpaths, none where there are no shapes. It is refused where
     /// the width is 2^31 sub-dots or more, a dash or the offset 2^62 counts of 1/65536 of a dot,
-    /// also without a path; with more than 65,536 dashes; and where the page has no room for the mark.
+    /// also without a path; with more than 65,536 dashes; and where the page has no room for the
+    /// mark.
     pub fn mark_stroke(&mut self) -> Result<(), Grow>
         ensures ok { OnOk result (stroked self.old ≡ Some self.new) }
         ensures limit { result ≡ Err Grow.LimitCheck → stroked self.old ≡ None }
         ensures err { OnErr result (self.new ≡ self.old) }
     {
         let shapes = stroke(self.alloc, &self.state)?;
-        self.ink(shapes)?;
+        self.mark_shapes(shapes)?;
         self.new_path();
         Ok(())
     }
