@@ -383,7 +383,7 @@ fn names_and_procedures_are_executed(rt: HostRuntime) -> Result<(), Fail> {
         (
             "all operators",
             "--size 1x1 p.ps",
-            "systemdict length 119 eq {0 0 1 1 rectfill} if showpage",
+            "systemdict length 132 eq {0 0 1 1 rectfill} if showpage",
             b"P6\n1 1\n255\n\x00\x00\x00",
             "",
         ),

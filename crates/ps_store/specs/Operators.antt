@@ -111,6 +111,12 @@ gfx_number_of OnGfx.Gsave = 85
 gfx_number_of OnGfx.Grestore = 86
 gfx_number_of OnGfx.Grestoreall = 87
 gfx_number_of OnGfx.Initgraphics = 88
+gfx_number_of OnGfx.Setlinewidth = 89
+gfx_number_of OnGfx.Setmiterlimit = 90
+gfx_number_of OnGfx.Setlinecap = 91
+gfx_number_of OnGfx.Setlinejoin = 92
+gfx_number_of OnGfx.Setdash = 93
+gfx_number_of OnGfx.Currentlinewidth = 94
 gfx_number_of OnGfx.Currentgray = 95
 gfx_number_of OnGfx.Setgray = 96
 gfx_number_of OnGfx.Setrgbcolor = 97
@@ -127,6 +133,7 @@ gfx_number_of OnGfx.Transform = 109
 gfx_number_of OnGfx.Itransform = 110
 gfx_number_of OnGfx.Newpath = 111
 gfx_number_of OnGfx.Closepath = 112
+gfx_number_of OnGfx.Initclip = 113
 gfx_number_of OnGfx.Moveto = 114
 gfx_number_of OnGfx.Lineto = 115
 gfx_number_of OnGfx.Rmoveto = 116
@@ -138,8 +145,14 @@ gfx_number_of OnGfx.Arcn = 121
 gfx_number_of OnGfx.Currentpoint = 122
 gfx_number_of OnGfx.Fill = 123
 gfx_number_of OnGfx.Eofill = 124
+gfx_number_of OnGfx.Stroke = 125
+gfx_number_of OnGfx.Clip = 126
+gfx_number_of OnGfx.Eoclip = 127
 gfx_number_of OnGfx.Rectfill = 128
+gfx_number_of OnGfx.Rectstroke = 129
+gfx_number_of OnGfx.Rectclip = 130
 gfx_number_of OnGfx.Erasepage = 135
+gfx_number_of OnGfx.Setpagedevice = 136
 
 abbrev pub page_number_of : PageOp → ℕ
 page_number_of OnPage.Quit = 80
@@ -248,6 +261,12 @@ gfx_name_of OnGfx.Gsave = codes "gsave"
 gfx_name_of OnGfx.Grestore = codes "grestore"
 gfx_name_of OnGfx.Grestoreall = codes "grestoreall"
 gfx_name_of OnGfx.Initgraphics = codes "initgraphics"
+gfx_name_of OnGfx.Setlinewidth = codes "setlinewidth"
+gfx_name_of OnGfx.Setmiterlimit = codes "setmiterlimit"
+gfx_name_of OnGfx.Setlinecap = codes "setlinecap"
+gfx_name_of OnGfx.Setlinejoin = codes "setlinejoin"
+gfx_name_of OnGfx.Setdash = codes "setdash"
+gfx_name_of OnGfx.Currentlinewidth = codes "currentlinewidth"
 gfx_name_of OnGfx.Currentgray = codes "currentgray"
 gfx_name_of OnGfx.Setgray = codes "setgray"
 gfx_name_of OnGfx.Setrgbcolor = codes "setrgbcolor"
@@ -264,6 +283,7 @@ gfx_name_of OnGfx.Transform = codes "transform"
 gfx_name_of OnGfx.Itransform = codes "itransform"
 gfx_name_of OnGfx.Newpath = codes "newpath"
 gfx_name_of OnGfx.Closepath = codes "closepath"
+gfx_name_of OnGfx.Initclip = codes "initclip"
 gfx_name_of OnGfx.Moveto = codes "moveto"
 gfx_name_of OnGfx.Lineto = codes "lineto"
 gfx_name_of OnGfx.Rmoveto = codes "rmoveto"
@@ -275,8 +295,14 @@ gfx_name_of OnGfx.Arcn = codes "arcn"
 gfx_name_of OnGfx.Currentpoint = codes "currentpoint"
 gfx_name_of OnGfx.Fill = codes "fill"
 gfx_name_of OnGfx.Eofill = codes "eofill"
+gfx_name_of OnGfx.Stroke = codes "stroke"
+gfx_name_of OnGfx.Clip = codes "clip"
+gfx_name_of OnGfx.Eoclip = codes "eoclip"
 gfx_name_of OnGfx.Rectfill = codes "rectfill"
+gfx_name_of OnGfx.Rectstroke = codes "rectstroke"
+gfx_name_of OnGfx.Rectclip = codes "rectclip"
 gfx_name_of OnGfx.Erasepage = codes "erasepage"
+gfx_name_of OnGfx.Setpagedevice = codes "setpagedevice"
 
 abbrev pub page_name_of : PageOp → List ℕ
 page_name_of OnPage.Quit = codes "quit"
@@ -315,14 +341,17 @@ operators_built = Stack OnStack.Pop ∷ Stack OnStack.Exch ∷ Stack OnStack.Dup
     Flow OnFlow.Stopped ∷ Page OnPage.Quit ∷ Flow OnFlow.Bind ∷ Data OnData.Currentfile ∷
     Data OnData.Readstring ∷ Data OnData.Readhexstring ∷
     Gfx OnGfx.Gsave ∷ Gfx OnGfx.Grestore ∷ Gfx OnGfx.Grestoreall ∷ Gfx OnGfx.Initgraphics ∷
+    Gfx OnGfx.Setlinewidth ∷ Gfx OnGfx.Setmiterlimit ∷ Gfx OnGfx.Setlinecap ∷
+    Gfx OnGfx.Setlinejoin ∷ Gfx OnGfx.Setdash ∷ Gfx OnGfx.Currentlinewidth ∷
     Gfx OnGfx.Currentgray ∷ Gfx OnGfx.Setgray ∷ Gfx OnGfx.Setrgbcolor ∷ Gfx OnGfx.Setcmykcolor ∷
     Gfx OnGfx.Matrix ∷ Gfx OnGfx.Currentmatrix ∷ Gfx OnGfx.Setmatrix ∷ Gfx OnGfx.Concat ∷
     Gfx OnGfx.Initmatrix ∷ Gfx OnGfx.Translate ∷ Gfx OnGfx.Scale ∷ Gfx OnGfx.Rotate ∷
     Gfx OnGfx.Transform ∷ Gfx OnGfx.Itransform ∷ Gfx OnGfx.Newpath ∷ Gfx OnGfx.Closepath ∷
-    Gfx OnGfx.Moveto ∷ Gfx OnGfx.Lineto ∷ Gfx OnGfx.Rmoveto ∷ Gfx OnGfx.Rlineto ∷
-    Gfx OnGfx.Curveto ∷ Gfx OnGfx.Rcurveto ∷ Gfx OnGfx.Arc ∷ Gfx OnGfx.Arcn ∷
-    Gfx OnGfx.Currentpoint ∷ Gfx OnGfx.Fill ∷ Gfx OnGfx.Eofill ∷ Gfx OnGfx.Rectfill ∷
-    Page OnPage.Showpage ∷ Gfx OnGfx.Erasepage ∷ []
+    Gfx OnGfx.Initclip ∷ Gfx OnGfx.Moveto ∷ Gfx OnGfx.Lineto ∷ Gfx OnGfx.Rmoveto ∷
+    Gfx OnGfx.Rlineto ∷ Gfx OnGfx.Curveto ∷ Gfx OnGfx.Rcurveto ∷ Gfx OnGfx.Arc ∷ Gfx OnGfx.Arcn ∷
+    Gfx OnGfx.Currentpoint ∷ Gfx OnGfx.Fill ∷ Gfx OnGfx.Eofill ∷ Gfx OnGfx.Stroke ∷
+    Gfx OnGfx.Clip ∷ Gfx OnGfx.Eoclip ∷ Gfx OnGfx.Rectfill ∷ Gfx OnGfx.Rectstroke ∷
+    Gfx OnGfx.Rectclip ∷ Page OnPage.Showpage ∷ Gfx OnGfx.Erasepage ∷ Gfx OnGfx.Setpagedevice ∷ []
 
 -- whether each number is below the next
 abbrev pub is_rising : List ℕ → Bool

@@ -108,6 +108,12 @@ pub enum GfxOp {
     Grestore = 86,
     Grestoreall = 87,
     Initgraphics = 88,
+    Setlinewidth = 89,
+    Setmiterlimit = 90,
+    Setlinecap = 91,
+    Setlinejoin = 92,
+    Setdash = 93,
+    Currentlinewidth = 94,
     Currentgray = 95,
     Setgray = 96,
     Setrgbcolor = 97,
@@ -124,6 +130,7 @@ pub enum GfxOp {
     Itransform = 110,
     Newpath = 111,
     Closepath = 112,
+    Initclip = 113,
     Moveto = 114,
     Lineto = 115,
     Rmoveto = 116,
@@ -135,8 +142,14 @@ pub enum GfxOp {
     Currentpoint = 122,
     Fill = 123,
     Eofill = 124,
+    Stroke = 125,
+    Clip = 126,
+    Eoclip = 127,
     Rectfill = 128,
+    Rectstroke = 129,
+    Rectclip = 130,
     Erasepage = 135,
+    Setpagedevice = 136,
 }
 
 /// The operators that end the program or give a page.
@@ -157,7 +170,7 @@ pub enum Oper {
 }
 
 /// The operators that are built, in the order of their numbers.
-const BUILT: [Oper; 119] = [
+const BUILT: [Oper; 132] = [
     Oper::Stack(StackOp::Pop),
     Oper::Stack(StackOp::Exch),
     Oper::Stack(StackOp::Dup),
@@ -247,6 +260,12 @@ const BUILT: [Oper; 119] = [
     Oper::Gfx(GfxOp::Grestore),
     Oper::Gfx(GfxOp::Grestoreall),
     Oper::Gfx(GfxOp::Initgraphics),
+    Oper::Gfx(GfxOp::Setlinewidth),
+    Oper::Gfx(GfxOp::Setmiterlimit),
+    Oper::Gfx(GfxOp::Setlinecap),
+    Oper::Gfx(GfxOp::Setlinejoin),
+    Oper::Gfx(GfxOp::Setdash),
+    Oper::Gfx(GfxOp::Currentlinewidth),
     Oper::Gfx(GfxOp::Currentgray),
     Oper::Gfx(GfxOp::Setgray),
     Oper::Gfx(GfxOp::Setrgbcolor),
@@ -263,6 +282,7 @@ const BUILT: [Oper; 119] = [
     Oper::Gfx(GfxOp::Itransform),
     Oper::Gfx(GfxOp::Newpath),
     Oper::Gfx(GfxOp::Closepath),
+    Oper::Gfx(GfxOp::Initclip),
     Oper::Gfx(GfxOp::Moveto),
     Oper::Gfx(GfxOp::Lineto),
     Oper::Gfx(GfxOp::Rmoveto),
@@ -274,9 +294,15 @@ const BUILT: [Oper; 119] = [
     Oper::Gfx(GfxOp::Currentpoint),
     Oper::Gfx(GfxOp::Fill),
     Oper::Gfx(GfxOp::Eofill),
+    Oper::Gfx(GfxOp::Stroke),
+    Oper::Gfx(GfxOp::Clip),
+    Oper::Gfx(GfxOp::Eoclip),
     Oper::Gfx(GfxOp::Rectfill),
+    Oper::Gfx(GfxOp::Rectstroke),
+    Oper::Gfx(GfxOp::Rectclip),
     Oper::Page(PageOp::Showpage),
     Oper::Gfx(GfxOp::Erasepage),
+    Oper::Gfx(GfxOp::Setpagedevice),
 ];
 
 impl Oper {
@@ -434,6 +460,12 @@ fn gfx_name(op: GfxOp) -> &'static str
         GfxOp::Grestore => "grestore",
         GfxOp::Grestoreall => "grestoreall",
         GfxOp::Initgraphics => "initgraphics",
+        GfxOp::Setlinewidth => "setlinewidth",
+        GfxOp::Setmiterlimit => "setmiterlimit",
+        GfxOp::Setlinecap => "setlinecap",
+        GfxOp::Setlinejoin => "setlinejoin",
+        GfxOp::Setdash => "setdash",
+        GfxOp::Currentlinewidth => "currentlinewidth",
         GfxOp::Currentgray => "currentgray",
         GfxOp::Setgray => "setgray",
         GfxOp::Setrgbcolor => "setrgbcolor",
@@ -450,6 +482,7 @@ fn gfx_name(op: GfxOp) -> &'static str
         GfxOp::Itransform => "itransform",
         GfxOp::Newpath => "newpath",
         GfxOp::Closepath => "closepath",
+        GfxOp::Initclip => "initclip",
         GfxOp::Moveto => "moveto",
         GfxOp::Lineto => "lineto",
         GfxOp::Rmoveto => "rmoveto",
@@ -461,8 +494,14 @@ fn gfx_name(op: GfxOp) -> &'static str
         GfxOp::Currentpoint => "currentpoint",
         GfxOp::Fill => "fill",
         GfxOp::Eofill => "eofill",
+        GfxOp::Stroke => "stroke",
+        GfxOp::Clip => "clip",
+        GfxOp::Eoclip => "eoclip",
         GfxOp::Rectfill => "rectfill",
+        GfxOp::Rectstroke => "rectstroke",
+        GfxOp::Rectclip => "rectclip",
         GfxOp::Erasepage => "erasepage",
+        GfxOp::Setpagedevice => "setpagedevice",
     }
 }
 
