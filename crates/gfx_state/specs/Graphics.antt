@@ -161,12 +161,16 @@ with_clip g clip = with_state g (record g.state { clip = clip })
 abbrev pub region_of : Rule → PathValue → Region
 region_of rule path = record { rule = rule; rings = rings_of (lines_of path) }
 
--- with the path as one more region of the clip, at most 256; the path stays
-abbrev pub clipped : Graphics → Rule → Option Graphics
-clipped g rule =
+-- with a path as one more region of the clip, at most 256
+abbrev pub clipped_to : Graphics → Rule → PathValue → Option Graphics
+clipped_to g rule path =
     if nat_lt (length g.state.clip) 256
-    then Some (with_clip g (g.state.clip ++ region_of rule g.state.path ∷ []))
+    then Some (with_clip g (g.state.clip ++ region_of rule path ∷ []))
     else None
+
+-- with the current path as one more region of the clip; the path stays
+abbrev pub clipped : Graphics → Rule → Option Graphics
+clipped g rule = clipped_to g rule g.state.path
 
 -- with the whole page as the clip: no regions
 abbrev pub with_initial_clip : Graphics → Graphics
@@ -238,13 +242,17 @@ marked g (shape ∷ rest) =
 abbrev pub outlined : List LineValue → PenValue → Option (List Shape)
 outlined lines pen = if nat_lt 65536 (dash_count pen lines) then None else Some (outline_of pen lines)
 
--- the shapes of a stroke of the path
-abbrev pub stroke_of : GraphicsState → Option (List Shape)
-stroke_of state = option_and_then (outlined (lines_of state.path)) (pen_of state.matrix state.line)
+-- the shapes of a stroke of a path
+abbrev pub stroke_of : GraphicsState → PathValue → Option (List Shape)
+stroke_of state path = option_and_then (outlined (lines_of path)) (pen_of state.matrix state.line)
 
--- the page where the path is stroked, and the path is empty then
+-- the page where a path is stroked
+abbrev pub stroked_along : Graphics → PathValue → Option Graphics
+stroked_along g path = option_and_then (marked g) (stroke_of g.state path)
+
+-- the page where the current path is stroked, and the path is empty then
 abbrev pub stroked : Graphics → Option Graphics
-stroked g = option_map (λ page. with_path page no_path) (option_and_then (marked g) (stroke_of g.state))
+stroked g = option_map (λ page. with_path page no_path) (stroked_along g g.state.path)
 
 -- the page as it is given
 abbrev pub page_of : Graphics → Sheet

@@ -1,8 +1,10 @@
 //! The clip: the regions that each mark is cut to.
-ghost use Rattle.std.specs.Prelude.{◌≡◌, ◌↔◌, ◌∷◌, ◌++◌, [], length, Some, None, OnOk, OnErr, IfOk, IsErrOf};
-ghost use Rattle.gfx_state.specs.Graphics.{clipped, with_initial_clip, region_of};
+ghost use Rattle.std.specs.Prelude.{◌≡◌, ◌≤◌, ◌↔◌, ◌∷◌, ◌++◌, [], length, Some, None, OnOk, OnErr, IfOk, IsErrOf};
+ghost use Rattle.std.specs.Arc.{arc_value};
+ghost use Rattle.gfx_state.specs.Graphics.{clipped, clipped_to, with_initial_clip, region_of};
 
 use crate::gfx::Gfx;
+use geo_path::Path;
 use page_model::{Clip, Region, Ring, Rings, Rule};
 use press_fault::{Grow, Mem};
 use std::alloc::Global;
@@ -20,15 +22,34 @@ impl Gfx {
         ensures limit { IsErrOf result Grow.LimitCheck ↔ (clipped self.old rule ≡ None) }
         ensures err { OnErr result (self.new ≡ self.old) }
     {
+        let clip = self.cut_clip(rule, self.path())?;
+        self.state.put_clip(clip);
+        Ok(())
+    }
+
+    /// Cuts the clip to a path; refused exactly where the clip has 256 regions.
+    pub fn clip_to(&mut self, rule: Rule, path: &Path) -> Result<(), Grow>
+        ensures ok { OnOk result (clipped_to self.old rule path.now ≡ Some self.new) }
+        ensures limit { IsErrOf result Grow.LimitCheck ↔ (clipped_to self.old rule path.now ≡ None) }
+        ensures err { OnErr result (self.new ≡ self.old) }
+    {
+        let clip = self.cut_clip(rule, path)?;
+        self.state.put_clip(clip);
+        Ok(())
+    }
+
+    /// The clip with one more region.
+    fn cut_clip(&self, rule: Rule, path: &Path) -> Result<Arc<Clip>, Grow>
+        ensures ok { IfOk result (λ clip. arc_value clip ≡ self.now.state.clip ++ region_of rule path.now ∷ []) }
+        ensures limit { IsErrOf result Grow.LimitCheck ↔ (256 ≤ length self.now.state.clip) }
+    {
         if self.state.regions() >= REGIONS {
             return Err(Grow::LimitCheck);
         }
-        let rings = self.path().flatten()?.into_rings(self.alloc)?;
+        let rings = path.flatten()?.into_rings(self.alloc)?;
         let mut clip = self.state.clip_copy(self.alloc)?;
         clip.push(Region { rule, rings })?;
-        let clip = Arc::new(self.alloc, clip)?;
-        self.state.put_clip(clip);
-        Ok(())
+        Ok(Arc::new(self.alloc, clip)?)
     }
 
     /// Sets the whole page as the clip.

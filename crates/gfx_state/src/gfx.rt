@@ -94,6 +94,16 @@ impl Gfx {
         self.initial();
     }
 
+    /// The size of the page: its width and height in dots, and the dots of an inch.
+    pub fn size(&self) -> (u32, u32, u32)
+        ensures width { result.0 ≡ self.now.size.width }
+        ensures height { result.1 ≡ self.now.size.height }
+        ensures res { result.2 ≡ self.now.size.res }
+        ensures kept { IsPageSize result.0 result.1 result.2 }
+    {
+        (self.width, self.height, self.res)
+    }
+
     /// Sets the colour space, and its first colour.
     pub fn set_space(&mut self, space: Space)
         ensures { self.new ≡ with_space self.old space }

@@ -1,10 +1,11 @@
-//! Strokes of the current path.
+//! Strokes of paths.
 ghost use Rattle.std.specs.Prelude.{◌≡◌, Some, None, Err, OnOk, OnErr, IfOk};
-ghost use Rattle.gfx_state.specs.Graphics.{stroke_of, stroked};
+ghost use Rattle.gfx_state.specs.Graphics.{stroke_of, stroked, stroked_along};
 
 use crate::gfx::Gfx;
 use crate::pen::pen;
 use crate::state::State;
+use geo_path::Path;
 use geo_stroke::outline;
 use page_model::Shapes;
 use press_fault::Grow;
@@ -22,19 +23,30 @@ impl Gfx {
         ensures limit { result ≡ Err Grow.LimitCheck → stroked self.old ≡ None }
         ensures err { OnErr result (self.new ≡ self.old) }
     {
-        let shapes = stroke(self.alloc, &self.state)?;
+        let shapes = stroke(self.alloc, &self.state, self.path())?;
         self.mark_shapes(shapes)?;
         self.new_path();
         Ok(())
     }
+
+    /// Strokes a path, as `mark_stroke` does the current one, which stays.
+    pub fn mark_stroke_of(&mut self, path: &Path) -> Result<(), Grow>
+        ensures ok { OnOk result (stroked_along self.old path.now ≡ Some self.new) }
+        ensures limit { result ≡ Err Grow.LimitCheck → stroked_along self.old path.now ≡ None }
+        ensures err { OnErr result (self.new ≡ self.old) }
+    {
+        let shapes = stroke(self.alloc, &self.state, path)?;
+        self.mark_shapes(shapes)?;
+        Ok(())
+    }
 }
 
-/// The shapes of a stroke of the state's path.
-fn stroke(alloc: Global, state: &State) -> Result<Shapes, Grow>
-    ensures ok { IfOk result (λ shapes. stroke_of state.now ≡ Some shapes) }
-    ensures limit { result ≡ Err Grow.LimitCheck → stroke_of state.now ≡ None }
+/// The shapes of a stroke of a path in a state.
+fn stroke(alloc: Global, state: &State, path: &Path) -> Result<Shapes, Grow>
+    ensures ok { IfOk result (λ shapes. stroke_of state.now path.now ≡ Some shapes) }
+    ensures limit { result ≡ Err Grow.LimitCheck → stroke_of state.now path.now ≡ None }
 {
     let pen = pen(alloc, &state.matrix, &state.line)?;
-    let lines = state.path.path().flatten()?;
+    let lines = path.flatten()?;
     outline(alloc, &lines, &pen)
 }

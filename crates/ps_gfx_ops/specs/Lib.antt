@@ -4,6 +4,8 @@ pub mod Points
 pub mod States
 pub mod Colours
 pub mod Matrices
+pub mod Lines
+pub mod Devices
 pub mod Paths
 pub mod Rectangles
 pub mod Rows

@@ -1,5 +1,5 @@
 -- Path construction and painting (PostScript Language Reference, third edition, 8.2 Operator Details: newpath, closepath,
--- moveto, lineto, rmoveto, rlineto, curveto, rcurveto, arc, arcn, currentpoint, fill, eofill). Own rule: where there is no
+-- moveto, lineto, rmoveto, rlineto, curveto, rcurveto, arc, arcn, currentpoint, fill, eofill, stroke, clip, eoclip). Own rule: where there is no
 -- current point, that is asked before the points.
 use Rattle.std.specs.Prelude.{ℤ, ◌+ℤ◌, Bool, List, ◌∷◌, drop, length, nat_lt, Option, Some, None, Result, Ok, Err, if◌then◌else◌}
 use Rattle.press_fault.specs.Plane.{Spot}
@@ -16,7 +16,7 @@ use Rattle.ps_store.specs.declared.obj.Obj.{Obj}
 use Rattle.ps_store.specs.declared.obj.Obj.TheVariants.{Real}
 use Rattle.ps_store.specs.Numbers.{raw_of}
 use Rattle.ps_store.specs.Outcome.{Outcome, Goes, Refuses, or_limit, or_undefined_result, or_refusal}
-use Rattle.gfx_state.specs.Graphics.{Graphics, with_path, filled}
+use Rattle.gfx_state.specs.Graphics.{Graphics, with_path, filled, stroked, clipped}
 use Rattle.ps_gfx_ops.specs.Easel.{Easel}
 use Rattle.ps_gfx_ops.specs.Points.{one_point, three_points}
 
@@ -99,3 +99,11 @@ currentpoint_row operands g =
 -- the path filled by an inside rule
 abbrev pub fill_row : Rule → List Obj → Graphics → Outcome Easel
 fill_row rule operands g = or_limit (filled g rule) (λ page. Goes (record { operands = operands; graphics = page }))
+
+-- the path stroked by the line parameters
+abbrev pub stroke_row : List Obj → Graphics → Outcome Easel
+stroke_row operands g = or_limit (stroked g) (λ page. Goes (record { operands = operands; graphics = page }))
+
+-- the clip cut to the path, which stays
+abbrev pub clip_row : Rule → List Obj → Graphics → Outcome Easel
+clip_row rule operands g = or_limit (clipped g rule) (λ now. Goes (record { operands = operands; graphics = now }))

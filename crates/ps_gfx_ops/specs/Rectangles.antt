@@ -1,16 +1,18 @@
--- Rectangles (PostScript Language Reference, third edition, 8.2 Operator Details: rectfill). Own rules: both
--- sums are asked before any point, and the path stays as it is.
-use Rattle.std.specs.Prelude.{ℤ, ◌+ℤ◌, List, [], ◌∷◌, Option, Some, None, Result, Ok, Err}
+-- Rectangles (PostScript Language Reference, third edition, 8.2 Operator Details: rectfill, rectstroke, rectclip). Own rules:
+-- both sums are asked before any point; the first two leave the path as it is.
+use Rattle.std.specs.Prelude.{ℤ, ◌+ℤ◌, true, List, [], ◌∷◌, drop, map, Option, Some, None, Result, Ok, Err}
 use Rattle.press_nums.specs.Fix.{fix_of}
 use Rattle.press_fault.specs.Plane.{Spot}
 use Rattle.press_fault.specs.declared.names.PsName.{PsName}
 use Rattle.press_fault.specs.declared.names.PsName.TheVariants.{StackUnderflow, TypeCheck, UndefinedResult, LimitCheck}
 use Rattle.geo_matrix.specs.Affine.{Affine, dots_of}
+use Rattle.geo_path.specs.declared.segment.Segment.TheVariants.{Line}
+use Rattle.geo_path.specs.Path.{PathValue}
 use Rattle.page_model.specs.declared.shape.Rule.TheVariants.{Nonzero}
 use Rattle.ps_store.specs.declared.obj.Obj.{Obj}
 use Rattle.ps_store.specs.Numbers.{raw_of}
-use Rattle.ps_store.specs.Outcome.{Outcome, Goes, Refuses}
-use Rattle.gfx_state.specs.Graphics.{Graphics, painted}
+use Rattle.ps_store.specs.Outcome.{Outcome, Goes, or_limit, or_refusal}
+use Rattle.gfx_state.specs.Graphics.{Graphics, painted, stroked_along, clipped_to, with_path, no_path}
 use Rattle.ps_gfx_ops.specs.Easel.{Easel}
 
 -- four corners in device space, where each is in range
@@ -28,18 +30,33 @@ corners_of m x y right top = Err UndefinedResult
 abbrev pub rectangle_of : Affine → ℤ → ℤ → ℤ → ℤ → Result (List Spot) PsName
 rectangle_of m x y w h = corners_of m x y (fix_of (x +ℤ w)) (fix_of (y +ℤ h))
 
-abbrev pub or_no_room : Option Graphics → List Obj → Outcome Easel
-or_no_room (Some g) rest = Goes (record { operands = rest; graphics = g })
-or_no_room None rest = Refuses LimitCheck
+-- the rectangle that four numbers are
+abbrev pub rectangle_or_type : Affine → Option ℤ → Option ℤ → Option ℤ → Option ℤ → Result (List Spot) PsName
+rectangle_or_type m (Some x) (Some y) (Some w) (Some h) = rectangle_of m x y w h
+rectangle_or_type m x y w h = Err TypeCheck
 
-abbrev pub filled : Result (List Spot) PsName → List Obj → Graphics → Outcome Easel
-filled (Ok ring) rest g = or_no_room (painted g Nonzero (ring ∷ [])) rest
-filled (Err name) rest g = Refuses name
+-- the rectangle that the top four operands are
+abbrev pub one_rectangle : Affine → List Obj → Result (List Spot) PsName
+one_rectangle m (h ∷ w ∷ y ∷ x ∷ rest) = rectangle_or_type m (raw_of x) (raw_of y) (raw_of w) (raw_of h)
+one_rectangle m operands = Err StackUnderflow
 
-abbrev pub with_sides : Option ℤ → Option ℤ → Option ℤ → Option ℤ → List Obj → Graphics → Outcome Easel
-with_sides (Some x) (Some y) (Some w) (Some h) rest g = filled (rectangle_of g.state.matrix x y w h) rest g
-with_sides x y w h rest g = Refuses TypeCheck
+-- a ring as a path: one closed subpath
+abbrev pub path_along : List Spot → PathValue
+path_along [] = no_path
+path_along (p ∷ rest) = record { before = []; last = Some (record { start = p; segments = map Line rest; closed = true }) }
 
 abbrev pub rectfill_row : List Obj → Graphics → Outcome Easel
-rectfill_row (h ∷ w ∷ y ∷ x ∷ rest) g = with_sides (raw_of x) (raw_of y) (raw_of w) (raw_of h) rest g
-rectfill_row operands g = Refuses StackUnderflow
+rectfill_row operands g =
+    or_refusal (one_rectangle g.state.matrix operands) (λ ring. or_limit (painted g Nonzero (ring ∷ [])) (λ page.
+    Goes (record { operands = drop 4 operands; graphics = page })))
+
+abbrev pub rectstroke_row : List Obj → Graphics → Outcome Easel
+rectstroke_row operands g =
+    or_refusal (one_rectangle g.state.matrix operands) (λ ring. or_limit (stroked_along g (path_along ring)) (λ page.
+    Goes (record { operands = drop 4 operands; graphics = page })))
+
+-- the current path is empty then
+abbrev pub rectclip_row : List Obj → Graphics → Outcome Easel
+rectclip_row operands g =
+    or_refusal (one_rectangle g.state.matrix operands) (λ ring. or_limit (clipped_to g Nonzero (path_along ring)) (λ now.
+    Goes (record { operands = drop 4 operands; graphics = with_path now no_path })))

@@ -7,13 +7,15 @@ use Rattle.ps_store.specs.declared.oper.GfxOp.TheVariants as OnGfx
 use Rattle.ps_store.specs.Outcome.{Outcome, Goes}
 use Rattle.ps_store.specs.Store.{Kept}
 use Rattle.geo_path.specs.Path.{closed}
-use Rattle.gfx_state.specs.Graphics.{Graphics, erased, restored, all_restored, with_initial, with_default_matrix, with_path, no_path}
+use Rattle.gfx_state.specs.Graphics.{Graphics, erased, restored, all_restored, with_initial, with_initial_clip, with_default_matrix, with_path, no_path}
 use Rattle.ps_gfx_ops.specs.Scene.{Scene, beside}
 use Rattle.ps_gfx_ops.specs.States.{gsave_row}
 use Rattle.ps_gfx_ops.specs.Colours.{currentgray_row, setgray_row, setrgbcolor_row, setcmykcolor_row}
+use Rattle.ps_gfx_ops.specs.Lines.{setlinewidth_row, setmiterlimit_row, setlinecap_row, setlinejoin_row, setdash_row, currentlinewidth_row}
 use Rattle.ps_gfx_ops.specs.Matrices.{matrix_row, currentmatrix_row, setmatrix_row, concat_row, translate_row, scale_row, rotate_row, transform_row, itransform_row}
-use Rattle.ps_gfx_ops.specs.Paths.{moveto_row, lineto_row, rmoveto_row, rlineto_row, curveto_row, rcurveto_row, arc_row, currentpoint_row, fill_row}
-use Rattle.ps_gfx_ops.specs.Rectangles.{rectfill_row}
+use Rattle.ps_gfx_ops.specs.Paths.{moveto_row, lineto_row, rmoveto_row, rlineto_row, curveto_row, rcurveto_row, arc_row, currentpoint_row, fill_row, stroke_row, clip_row}
+use Rattle.ps_gfx_ops.specs.Devices.{setpagedevice_row}
+use Rattle.ps_gfx_ops.specs.Rectangles.{rectfill_row, rectstroke_row, rectclip_row}
 
 -- an operator without operands that is never refused
 abbrev pub becomes : Graphics → List Obj → Kept → Outcome Scene
@@ -24,6 +26,12 @@ gfx_row OnGfx.Gsave operands s g = beside s (gsave_row operands g)
 gfx_row OnGfx.Grestore operands s g = becomes (restored g) operands s
 gfx_row OnGfx.Grestoreall operands s g = becomes (all_restored g) operands s
 gfx_row OnGfx.Initgraphics operands s g = becomes (with_initial g) operands s
+gfx_row OnGfx.Setlinewidth operands s g = beside s (setlinewidth_row operands g)
+gfx_row OnGfx.Setmiterlimit operands s g = beside s (setmiterlimit_row operands g)
+gfx_row OnGfx.Setlinecap operands s g = beside s (setlinecap_row operands g)
+gfx_row OnGfx.Setlinejoin operands s g = beside s (setlinejoin_row operands g)
+gfx_row OnGfx.Setdash operands s g = beside s (setdash_row operands s g)
+gfx_row OnGfx.Currentlinewidth operands s g = beside s (currentlinewidth_row operands g)
 gfx_row OnGfx.Currentgray operands s g = beside s (currentgray_row operands g)
 gfx_row OnGfx.Setgray operands s g = beside s (setgray_row operands g)
 gfx_row OnGfx.Setrgbcolor operands s g = beside s (setrgbcolor_row operands g)
@@ -40,6 +48,7 @@ gfx_row OnGfx.Transform operands s g = beside s (transform_row operands g)
 gfx_row OnGfx.Itransform operands s g = beside s (itransform_row operands g)
 gfx_row OnGfx.Newpath operands s g = becomes (with_path g no_path) operands s
 gfx_row OnGfx.Closepath operands s g = becomes (with_path g (closed g.state.path)) operands s
+gfx_row OnGfx.Initclip operands s g = becomes (with_initial_clip g) operands s
 gfx_row OnGfx.Moveto operands s g = beside s (moveto_row operands g)
 gfx_row OnGfx.Lineto operands s g = beside s (lineto_row operands g)
 gfx_row OnGfx.Rmoveto operands s g = beside s (rmoveto_row operands g)
@@ -51,5 +60,11 @@ gfx_row OnGfx.Arcn operands s g = beside s (arc_row true operands g)
 gfx_row OnGfx.Currentpoint operands s g = beside s (currentpoint_row operands g)
 gfx_row OnGfx.Fill operands s g = beside s (fill_row Nonzero operands g)
 gfx_row OnGfx.Eofill operands s g = beside s (fill_row EvenOdd operands g)
+gfx_row OnGfx.Stroke operands s g = beside s (stroke_row operands g)
+gfx_row OnGfx.Clip operands s g = beside s (clip_row Nonzero operands g)
+gfx_row OnGfx.Eoclip operands s g = beside s (clip_row EvenOdd operands g)
 gfx_row OnGfx.Rectfill operands s g = beside s (rectfill_row operands g)
+gfx_row OnGfx.Rectstroke operands s g = beside s (rectstroke_row operands g)
+gfx_row OnGfx.Rectclip operands s g = beside s (rectclip_row operands g)
 gfx_row OnGfx.Erasepage operands s g = becomes (erased g) operands s
+gfx_row OnGfx.Setpagedevice operands s g = beside s (setpagedevice_row operands s g)

@@ -5,6 +5,8 @@
 #![tactic(auto)]
 
 mod colours;
+mod devices;
+mod lines;
 mod matrices;
 mod paths;
 mod points;
@@ -12,4 +14,5 @@ mod rectangles;
 mod rows;
 mod states;
 
+pub use devices::PageDots;
 pub use rows::run_gfx;

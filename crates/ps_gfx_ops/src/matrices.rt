@@ -105,7 +105,7 @@ fn matrix_of(objects: &[Obj]) -> Result<Matrix, PsName>
 }
 
 /// Whether each object is a number.
-fn are_numbers(objects: &[Obj]) -> bool
+pub(crate) fn are_numbers(objects: &[Obj]) -> bool
     ensures { result ≡ list_all is_number objects.now }
 {
     objects.iter().all(|o| number(o).is_some())

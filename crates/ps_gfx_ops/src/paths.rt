@@ -4,7 +4,7 @@ ghost use Rattle.geo_matrix.specs.Affine.{IsNear};
 ghost use Rattle.geo_path.specs.Path.{curve_of, closed};
 ghost use Rattle.gfx_state.specs.Graphics.{with_path};
 ghost use Rattle.ps_store.specs.Outcome.{Answers};
-ghost use Rattle.ps_gfx_ops.specs.Paths.{error_of, drawn, stepped, moveto_row, lineto_row, rmoveto_row, rlineto_row, curveto_row, rcurveto_row, arc_row, currentpoint_row, fill_row};
+ghost use Rattle.ps_gfx_ops.specs.Paths.{error_of, drawn, stepped, moveto_row, lineto_row, rmoveto_row, rlineto_row, curveto_row, rcurveto_row, arc_row, currentpoint_row, fill_row, stroke_row, clip_row};
 
 use crate::points::{one_point, three_points};
 use geo_matrix::{back, by_dots, to_dots};
@@ -246,6 +246,32 @@ pub(crate) fn fill(stack: &mut Stack, gfx: &mut Gfx, rule: Rule) -> Result<(), O
         (record { operands = stack.new; graphics = gfx.new }) }
 {
     match gfx.mark_fill(rule) {
+        Ok(()) => Ok(()),
+        Err(Grow::LimitCheck) => Err(OpFault::Ps(PsName::LimitCheck)),
+        Err(Grow::NoMemory) => Err(OpFault::NoMemory),
+    }
+}
+
+/// `stroke`: the path is stroked by the line parameters, and empty then.
+pub(crate) fn stroke(stack: &mut Stack, gfx: &mut Gfx) -> Result<(), OpFault>
+    ensures { Answers (stroke_row stack.old gfx.old) result
+        (record { operands = stack.old; graphics = gfx.old })
+        (record { operands = stack.new; graphics = gfx.new }) }
+{
+    match gfx.mark_stroke() {
+        Ok(()) => Ok(()),
+        Err(Grow::LimitCheck) => Err(OpFault::Ps(PsName::LimitCheck)),
+        Err(Grow::NoMemory) => Err(OpFault::NoMemory),
+    }
+}
+
+/// `clip` and `eoclip`: the clip is cut to the path by an inside rule. The path stays.
+pub(crate) fn clip(stack: &mut Stack, gfx: &mut Gfx, rule: Rule) -> Result<(), OpFault>
+    ensures { Answers (clip_row rule stack.old gfx.old) result
+        (record { operands = stack.old; graphics = gfx.old })
+        (record { operands = stack.new; graphics = gfx.new }) }
+{
+    match gfx.clip(rule) {
         Ok(()) => Ok(()),
         Err(Grow::LimitCheck) => Err(OpFault::Ps(PsName::LimitCheck)),
         Err(Grow::NoMemory) => Err(OpFault::NoMemory),

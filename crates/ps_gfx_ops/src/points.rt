@@ -72,7 +72,7 @@ pub(crate) fn three_points(stack: &Stack) -> Result<ThreePoints, PsName>
 }
 
 /// The point of two objects.
-fn point_of(x: &Obj, y: &Obj) -> Result<RealPoint, PsName>
+pub(crate) fn point_of(x: &Obj, y: &Obj) -> Result<RealPoint, PsName>
     ensures { result ≡ point_or_type (raw_of x.now) (raw_of y.now) }
 {
     match (number(x), number(y)) {

@@ -1,12 +1,13 @@
-//! Rectangles that are filled.
-ghost use Rattle.std.specs.Prelude.{◌≡◌, [], ◌∷◌, IfOk};
+//! Rectangles that are filled and stroked, and those that the clip is cut to.
+ghost use Rattle.std.specs.Prelude.{◌≡◌, ◌≤◌, [], ◌∷◌, length, IfOk, OnOk};
 ghost use Rattle.ps_store.specs.Outcome.{Answers};
-ghost use Rattle.ps_gfx_ops.specs.Rectangles.{rectangle_of, rectfill_row};
+ghost use Rattle.ps_gfx_ops.specs.Rectangles.{rectangle_of, one_rectangle, path_along, rectfill_row, rectstroke_row, rectclip_row};
 
 use geo_matrix::{Matrix, to_dots};
+use geo_path::{Path, PathFault};
 use gfx_state::Gfx;
 use page_model::{Ring, Rings, Rule};
-use press_fault::{Grow, Mem, Point, PsName};
+use press_fault::{Grow, Mem, NoMemory, Point, PsName};
 use press_nums::{Fix, fix_add};
 use ps_store::{OpFault, Stack, number};
 use std::alloc::Global;
@@ -51,25 +52,97 @@ fn ring_of(alloc: Global, points: &[Point; 4]) -> Mem<Rings>
     Ok(rings)
 }
 
-/// `rectfill`: a mark of a rectangle. The path stays.
-pub(crate) fn rectfill(alloc: Global, stack: &mut Stack, gfx: &mut Gfx) -> Result<(), OpFault>
-    ensures { Answers (rectfill_row stack.old gfx.old) result (record { operands = stack.old; graphics = gfx.old }) (record { operands = stack.new; graphics = gfx.new }) }
+/// The rectangle that the top four operands are, in device space.
+fn one_rectangle(m: &Matrix, stack: &Stack) -> Result<[Point; 4], PsName>
+    ensures value { result ≡ one_rectangle m.now stack.now }
+    ensures enough { OnOk result (4 ≤ length stack.now) }
 {
     let Some((h, w, y, x)) = stack.top_four() else {
-        return Err(OpFault::Ps(PsName::StackUnderflow));
+        return Err(PsName::StackUnderflow);
     };
-    let (Some(x), Some(y), Some(w), Some(h)) = (number(x), number(y), number(w), number(h)) else {
-        return Err(OpFault::Ps(PsName::TypeCheck));
-    };
-    let points = match corners(&gfx.matrix(), x, y, w, h) {
-        Ok(points) => points,
-        Err(name) => return Err(OpFault::Ps(name)),
-    };
+    match (number(x), number(y), number(w), number(h)) {
+        (Some(x), Some(y), Some(w), Some(h)) => corners(m, x, y, w, h),
+        _ => Err(PsName::TypeCheck),
+    }
+}
+
+/// The path along four points, one closed subpath.
+fn path_along(alloc: Global, points: &[Point; 4]) -> Mem<Path>
+    ensures { IfOk result (λ path. path ≡ path_along points.now) }
+{
+    let mut path = Path::new(alloc);
+    let [p, q, r, s] = points;
+    drawn(path.move_to(*p))?;
+    drawn(path.line_to(*q))?;
+    drawn(path.line_to(*r))?;
+    drawn(path.line_to(*s))?;
+    path.close();
+    Ok(path)
+}
+
+/// What a call on a path answered, where its points are near and few, so that only memory is wanted.
+fn drawn(answer: Result<(), PathFault>) -> Mem<()>
+    ensures { OnOk result (answer ≡ Ok tt) }
+{
+    match answer {
+        Ok(()) => Ok(()),
+        Err(_) => Err(NoMemory),
+    }
+}
+
+/// `rectfill`: a mark of a rectangle. The path stays.
+pub(crate) fn rectfill(alloc: Global, stack: &mut Stack, gfx: &mut Gfx) -> Result<(), OpFault>
+    ensures { Answers (rectfill_row stack.old gfx.old) result
+        (record { operands = stack.old; graphics = gfx.old })
+        (record { operands = stack.new; graphics = gfx.new }) }
+{
+    let points = one_rectangle(&gfx.matrix(), stack)?;
     let Ok(rings) = ring_of(alloc, &points) else {
         return Err(OpFault::NoMemory);
     };
     match gfx.mark_rings(Rule::Nonzero, rings) {
         Ok(()) => {
+            stack.drop_top(4);
+            Ok(())
+        }
+        Err(Grow::LimitCheck) => Err(OpFault::Ps(PsName::LimitCheck)),
+        Err(Grow::NoMemory) => Err(OpFault::NoMemory),
+    }
+}
+
+/// `rectstroke`: a mark of a rectangle's outline. The path stays.
+pub(crate) fn rectstroke(alloc: Global, stack: &mut Stack, gfx: &mut Gfx) -> Result<(), OpFault>
+    ensures { Answers (rectstroke_row stack.old gfx.old) result
+        (record { operands = stack.old; graphics = gfx.old })
+        (record { operands = stack.new; graphics = gfx.new }) }
+{
+    let points = one_rectangle(&gfx.matrix(), stack)?;
+    let Ok(path) = path_along(alloc, &points) else {
+        return Err(OpFault::NoMemory);
+    };
+    match gfx.mark_stroke_of(&path) {
+        Ok(()) => {
+            stack.drop_top(4);
+            Ok(())
+        }
+        Err(Grow::LimitCheck) => Err(OpFault::Ps(PsName::LimitCheck)),
+        Err(Grow::NoMemory) => Err(OpFault::NoMemory),
+    }
+}
+
+/// `rectclip`: the clip is cut to a rectangle. The path is empty then.
+pub(crate) fn rectclip(alloc: Global, stack: &mut Stack, gfx: &mut Gfx) -> Result<(), OpFault>
+    ensures { Answers (rectclip_row stack.old gfx.old) result
+        (record { operands = stack.old; graphics = gfx.old })
+        (record { operands = stack.new; graphics = gfx.new }) }
+{
+    let points = one_rectangle(&gfx.matrix(), stack)?;
+    let Ok(path) = path_along(alloc, &points) else {
+        return Err(OpFault::NoMemory);
+    };
+    match gfx.clip_to(Rule::Nonzero, &path) {
+        Ok(()) => {
+            gfx.new_path();
             stack.drop_top(4);
             Ok(())
         }

@@ -4,13 +4,18 @@ ghost use Rattle.ps_store.specs.Outcome.{Answers};
 ghost use Rattle.ps_gfx_ops.specs.Rows.{gfx_row};
 
 use crate::colours::{currentgray, setcmykcolor, setgray, setrgbcolor};
+use crate::devices::setpagedevice;
+use crate::lines::{
+    currentlinewidth, setdash, setlinecap, setlinejoin, setlinewidth, setmiterlimit,
+};
 use crate::matrices::{
     concat, currentmatrix, itransform, matrix, rotate, scale, setmatrix, transform, translate,
 };
 use crate::paths::{
-    arc, closepath, currentpoint, curveto, fill, lineto, moveto, rcurveto, rlineto, rmoveto,
+    arc, clip, closepath, currentpoint, curveto, fill, lineto, moveto, rcurveto, rlineto, rmoveto,
+    stroke,
 };
-use crate::rectangles::rectfill;
+use crate::rectangles::{rectclip, rectfill, rectstroke};
 use crate::states::{grestoreall, gsave};
 use gfx_state::Gfx;
 use page_model::Rule;
@@ -42,6 +47,12 @@ pub fn run_gfx(
             gfx.initial();
             Ok(())
         }
+        GfxOp::Setlinewidth => setlinewidth(stack, gfx),
+        GfxOp::Setmiterlimit => setmiterlimit(stack, gfx),
+        GfxOp::Setlinecap => setlinecap(stack, gfx),
+        GfxOp::Setlinejoin => setlinejoin(stack, gfx),
+        GfxOp::Setdash => setdash(alloc, stack, store, gfx),
+        GfxOp::Currentlinewidth => currentlinewidth(stack, gfx),
         GfxOp::Currentgray => currentgray(stack, gfx),
         GfxOp::Setgray => setgray(stack, gfx),
         GfxOp::Setrgbcolor => setrgbcolor(stack, gfx),
@@ -64,6 +75,10 @@ pub fn run_gfx(
             Ok(())
         }
         GfxOp::Closepath => closepath(gfx),
+        GfxOp::Initclip => {
+            gfx.initial_clip();
+            Ok(())
+        }
         GfxOp::Moveto => moveto(stack, gfx),
         GfxOp::Lineto => lineto(stack, gfx),
         GfxOp::Rmoveto => rmoveto(stack, gfx),
@@ -75,10 +90,16 @@ pub fn run_gfx(
         GfxOp::Currentpoint => currentpoint(stack, gfx),
         GfxOp::Fill => fill(stack, gfx, Rule::Nonzero),
         GfxOp::Eofill => fill(stack, gfx, Rule::EvenOdd),
+        GfxOp::Stroke => stroke(stack, gfx),
+        GfxOp::Clip => clip(stack, gfx, Rule::Nonzero),
+        GfxOp::Eoclip => clip(stack, gfx, Rule::EvenOdd),
         GfxOp::Rectfill => rectfill(alloc, stack, gfx),
+        GfxOp::Rectstroke => rectstroke(alloc, stack, gfx),
+        GfxOp::Rectclip => rectclip(alloc, stack, gfx),
         GfxOp::Erasepage => {
             gfx.erase();
             Ok(())
         }
+        GfxOp::Setpagedevice => setpagedevice(stack, store, gfx),
     }
 }

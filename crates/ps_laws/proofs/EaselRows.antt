@@ -2,7 +2,7 @@
 -- without any number of the top ones, and of these with two real numbers.
 use Rattle.std.specs.Prelude.{ℤ, Bool, nat_lt}
 use Rattle.std.proofs.lemmas.Bool.{ltb-true}
-use Rattle.std.proofs.Common.{ℕ, ◌<◌, List, ◌∷◌, length, drop, Option, Some, None, Result, Ok, Err}
+use Rattle.std.proofs.Common.{ℕ, ◌<◌, List, [], ◌∷◌, length, drop, Option, Some, None, Result, Ok, Err}
 use Rattle.press_fault.specs.Plane.{Spot}
 use Rattle.press_fault.specs.declared.names.PsName.{PsName}
 use Rattle.geo_matrix.specs.Affine.{dots_of, step_dots_of}
@@ -12,17 +12,23 @@ use Rattle.geo_path.specs.declared.path.PathFault.{PathFault}
 use Rattle.geo_path.specs.Path.{PathValue, current_of, move_of, line_of, curve_of}
 use Rattle.geo_path.specs.Arc.{arc_of}
 use Rattle.page_model.specs.declared.shape.Rule.{Rule}
+use Rattle.page_model.specs.declared.shape.Rule.TheVariants.{Nonzero}
 use Rattle.ps_store.specs.declared.obj.Obj.{Obj}
 use Rattle.ps_store.specs.declared.obj.Obj.TheVariants.{Real}
 use Rattle.ps_store.specs.Numbers.{raw_of}
-use Rattle.ps_store.specs.Outcome.{Outcome, Goes, Refuses, or_limit, or_undefined_result, or_refusal}
+use Rattle.ps_store.specs.Outcome.{Outcome, Goes, Refuses, or_range, or_limit, or_undefined_result, or_refusal}
 use Rattle.ps_store.specs.Store.{Kept}
-use Rattle.gfx_state.specs.Graphics.{Graphics, saved_state, concatenated, translation, scaling, filled}
+use Rattle.gfx_state.specs.declared.line_style.DashFault.{DashFault}
+use Rattle.gfx_state.specs.Lines.{dash_fault}
+use Rattle.gfx_state.specs.Graphics.{Graphics, saved_state, concatenated, translation, scaling, filled, stroked, clipped, painted, stroked_along, clipped_to, with_width, with_cap, with_join, with_miter}
 use Rattle.ps_gfx_ops.specs.Easel.{Easel}
 use Rattle.ps_gfx_ops.specs.Points.{one_number, one_point, three_points}
 use Rattle.ps_gfx_ops.specs.States.{gsave_row}
 use Rattle.ps_gfx_ops.specs.Matrices.{one_matrix, setmatrix_row, concat_row, translate_row, scale_row, rotate_row, in_place_of_two, transform_row, itransform_row}
-use Rattle.ps_gfx_ops.specs.Paths.{drawn, from_point, stepped, moveto_row, lineto_row, rmoveto_row, rlineto_row, curveto_row, rcurveto_row, with_arc, arc_row, pushed_point, currentpoint_row, fill_row}
+use Rattle.ps_gfx_ops.specs.Paths.{drawn, from_point, stepped, moveto_row, lineto_row, rmoveto_row, rlineto_row, curveto_row, rcurveto_row, with_arc, arc_row, pushed_point, currentpoint_row, fill_row, stroke_row, clip_row}
+use Rattle.ps_gfx_ops.specs.Rectangles.{one_rectangle, path_along, rectfill_row, rectstroke_row, rectclip_row}
+use Rattle.ps_gfx_ops.specs.Lines.{one_integer, setlinewidth_row, setmiterlimit_row, setlinecap_row, setlinejoin_row, dash_operands, unless_refused, setdash_row}
+use Rattle.ps_gfx_ops.specs.Devices.{one_size, setpagedevice_row}
 use Rattle.ps_laws.proofs.Operands.{by_test}
 
 -- P holds of the operands that are left
@@ -53,6 +59,10 @@ by_limit P None go given = tt
 by_result : {A : Type 0} (P : List Obj → Type 0) (o : Option A) (go : A → Outcome Easel) → ((a : A) → After P (go a)) → After P (or_undefined_result o go)
 by_result P (Some a) go given = given a
 by_result P None go given = tt
+
+by_range : {A : Type 0} (P : List Obj → Type 0) (o : Option A) (go : A → Outcome Easel) → ((a : A) → After P (go a)) → After P (or_range o go)
+by_range P (Some a) go given = given a
+by_range P None go given = tt
 
 by_point : (P : List Obj → Type 0) (o : Option Spot) (go : Spot → Outcome Easel) → ((at : Spot) → After P (go at)) → After P (from_point o go)
 by_point P (Some at) go given = given at
@@ -135,3 +145,43 @@ after_transform P os g h = by_refusal P (one_point os) _ (λ u. after_in_place P
 
 pub after_itransform : (P : List Obj → Type 0) (os : List Obj) (g : Graphics) → InPlace P os → After P (itransform_row os g)
 after_itransform P os g h = by_refusal P (one_point os) _ (λ u. after_in_place P (user_of g.state.matrix u.x u.y) os g h)
+
+pub after_stroke : (P : List Obj → Type 0) (os : List Obj) (g : Graphics) → Dropped P os → After P (stroke_row os g)
+after_stroke P os g h = by_limit P (stroked g) _ (λ page. h 0)
+
+pub after_clip : (P : List Obj → Type 0) (rule : Rule) (os : List Obj) (g : Graphics) → Dropped P os → After P (clip_row rule os g)
+after_clip P rule os g h = by_limit P (clipped g rule) _ (λ now. h 0)
+
+pub after_rectfill : (P : List Obj → Type 0) (os : List Obj) (g : Graphics) → Dropped P os → After P (rectfill_row os g)
+after_rectfill P os g h = by_refusal P (one_rectangle g.state.matrix os) _ (λ ring.
+    by_limit P (painted g Nonzero (ring ∷ [])) _ (λ page. h 4))
+
+pub after_rectstroke : (P : List Obj → Type 0) (os : List Obj) (g : Graphics) → Dropped P os → After P (rectstroke_row os g)
+after_rectstroke P os g h = by_refusal P (one_rectangle g.state.matrix os) _ (λ ring.
+    by_limit P (stroked_along g (path_along ring)) _ (λ page. h 4))
+
+pub after_rectclip : (P : List Obj → Type 0) (os : List Obj) (g : Graphics) → Dropped P os → After P (rectclip_row os g)
+after_rectclip P os g h = by_refusal P (one_rectangle g.state.matrix os) _ (λ ring.
+    by_limit P (clipped_to g Nonzero (path_along ring)) _ (λ now. h 4))
+
+pub after_setlinewidth : (P : List Obj → Type 0) (os : List Obj) (g : Graphics) → Dropped P os → After P (setlinewidth_row os g)
+after_setlinewidth P os g h = by_refusal P (one_number os) _ (λ width. by_result P (with_width g width) _ (λ now. h 1))
+
+pub after_setmiterlimit : (P : List Obj → Type 0) (os : List Obj) (g : Graphics) → Dropped P os → After P (setmiterlimit_row os g)
+after_setmiterlimit P os g h = by_refusal P (one_number os) _ (λ limit. by_range P (with_miter g limit) _ (λ now. h 1))
+
+pub after_setlinecap : (P : List Obj → Type 0) (os : List Obj) (g : Graphics) → Dropped P os → After P (setlinecap_row os g)
+after_setlinecap P os g h = by_refusal P (one_integer os) _ (λ number. by_range P (with_cap g number) _ (λ now. h 1))
+
+pub after_setlinejoin : (P : List Obj → Type 0) (os : List Obj) (g : Graphics) → Dropped P os → After P (setlinejoin_row os g)
+after_setlinejoin P os g h = by_refusal P (one_integer os) _ (λ number. by_range P (with_join g number) _ (λ now. h 1))
+
+after_unless : (P : List Obj → Type 0) (fault : Option DashFault) (go : Outcome Easel) → After P go → After P (unless_refused fault go)
+after_unless P None go h = h
+after_unless P (Some fault) go h = tt
+
+pub after_setdash : (P : List Obj → Type 0) (os : List Obj) (s : Kept) (g : Graphics) → Dropped P os → After P (setdash_row os s g)
+after_setdash P os s g h = by_refusal P (dash_operands os s) _ (λ d. after_unless P (dash_fault d.lengths) _ (h 2))
+
+pub after_setpagedevice : (P : List Obj → Type 0) (os : List Obj) (s : Kept) (g : Graphics) → Dropped P os → After P (setpagedevice_row os s g)
+after_setpagedevice P os s g h = by_refusal P (one_size g.size os s) _ (λ dots. h 1)

@@ -21,10 +21,9 @@ use Rattle.ps_gfx_ops.specs.Easel.{Easel}
 use Rattle.ps_gfx_ops.specs.Scene.{Scene, beside}
 use Rattle.ps_gfx_ops.specs.Colours.{one_component, setgray_row, three_components, setrgbcolor_row, four_components, setcmykcolor_row, on_easel}
 use Rattle.ps_gfx_ops.specs.Matrices.{elements_of, matrix_row, currentmatrix_row}
-use Rattle.ps_gfx_ops.specs.Rectangles.{rectangle_of, or_no_room, filled, with_sides, rectfill_row}
 use Rattle.ps_gfx_ops.specs.Rows.{gfx_row}
 use Rattle.ps_laws.proofs.Operands.{Few, by_test, few_pushed}
-use Rattle.ps_laws.proofs.EaselRows.{After, Dropped, InPlace, OnTop, after_gsave, after_moveto, after_lineto, after_rmoveto, after_rlineto, after_curveto, after_rcurveto, after_arc, after_currentpoint, after_fill, after_setmatrix, after_concat, after_translate, after_scale, after_rotate, after_transform, after_itransform}
+use Rattle.ps_laws.proofs.EaselRows.{After, Dropped, InPlace, OnTop, after_gsave, after_moveto, after_lineto, after_rmoveto, after_rlineto, after_curveto, after_rcurveto, after_arc, after_currentpoint, after_fill, after_setmatrix, after_concat, after_translate, after_scale, after_rotate, after_transform, after_itransform, after_stroke, after_clip, after_rectfill, after_rectstroke, after_rectclip, after_setlinewidth, after_setmiterlimit, after_setlinecap, after_setlinejoin, after_setdash, after_setpagedevice}
 
 abbrev pub AtMost500 : List Obj → Type 0
 AtMost500 operands = length operands ≤ 500
@@ -77,22 +76,6 @@ few_setcmykcolor : (operands : List Obj) (g : Graphics) → length operands ≤ 
 few_setcmykcolor (black ∷ yellow ∷ magenta ∷ cyan ∷ rest) g h = few_four (raw_of cyan) (raw_of magenta) (raw_of yellow) (raw_of black) rest g (omega arith)
 few_setcmykcolor operands g h = tt
 
-few_room : (painted : Option Graphics) (rest : List Obj) → length rest ≤ 500 → FewOfEasel (or_no_room painted rest)
-few_room (Some g) rest h = h
-few_room None rest h = tt
-
-few_filled : (ring : Result (List Spot) PsName) (rest : List Obj) (g : Graphics) → length rest ≤ 500 → FewOfEasel (filled ring rest g)
-few_filled (Ok ring) rest g h = few_room (painted g Nonzero (ring ∷ [])) rest h
-few_filled (Err name) rest g h = tt
-
-few_sides : (x y w h : Option ℤ) (rest : List Obj) (g : Graphics) → length rest ≤ 500 → FewOfEasel (with_sides x y w h rest g)
-few_sides (Some x) (Some y) (Some w) (Some h) rest g few = few_filled (rectangle_of g.state.matrix x y w h) rest g few
-few_sides x y w h rest g few = tt
-
-few_rectfill : (operands : List Obj) (g : Graphics) → length operands ≤ 500 → FewOfEasel (rectfill_row operands g)
-few_rectfill (h ∷ w ∷ y ∷ x ∷ rest) g few = few_sides (raw_of x) (raw_of y) (raw_of w) (raw_of h) rest g (omega arith)
-few_rectfill operands g few = tt
-
 few_new : (made : Option (Span × Kept)) (os : List Obj) (g : Graphics) → length os < 500 → FewOfScene (or_limit made (λ new. Goes (record { operands = Array new.0 false ∷ os; store = new.1; graphics = g })))
 few_new (Some new) os g h = omega arith
 few_new None os g h = tt
@@ -112,6 +95,12 @@ gfx_few OnGfx.Gsave os s g h = few_beside s _ (after_gsave AtMost500 os g (few_d
 gfx_few OnGfx.Grestore os s g h = h
 gfx_few OnGfx.Grestoreall os s g h = h
 gfx_few OnGfx.Initgraphics os s g h = h
+gfx_few OnGfx.Setlinewidth os s g h = few_beside s _ (after_setlinewidth AtMost500 os g (few_dropped os h))
+gfx_few OnGfx.Setmiterlimit os s g h = few_beside s _ (after_setmiterlimit AtMost500 os g (few_dropped os h))
+gfx_few OnGfx.Setlinecap os s g h = few_beside s _ (after_setlinecap AtMost500 os g (few_dropped os h))
+gfx_few OnGfx.Setlinejoin os s g h = few_beside s _ (after_setlinejoin AtMost500 os g (few_dropped os h))
+gfx_few OnGfx.Setdash os s g h = few_beside s _ (after_setdash AtMost500 os s g (few_dropped os h))
+gfx_few OnGfx.Currentlinewidth os s g h = few_beside s _ (few_on_easel g _ (few_pushed (Real g.state.line.width) os))
 gfx_few OnGfx.Currentgray os s g h = few_beside s _ (few_on_easel g _ (few_pushed (Real (gray_of g.state.space g.state.code.c)) os))
 gfx_few OnGfx.Setgray os s g h = few_beside s _ (few_setgray os g h)
 gfx_few OnGfx.Setrgbcolor os s g h = few_beside s _ (few_setrgbcolor os g h)
@@ -128,6 +117,7 @@ gfx_few OnGfx.Transform os s g h = few_beside s _ (after_transform AtMost500 os 
 gfx_few OnGfx.Itransform os s g h = few_beside s _ (after_itransform AtMost500 os g (few_in_place os h))
 gfx_few OnGfx.Newpath os s g h = h
 gfx_few OnGfx.Closepath os s g h = h
+gfx_few OnGfx.Initclip os s g h = h
 gfx_few OnGfx.Moveto os s g h = few_beside s _ (after_moveto AtMost500 os g (few_dropped os h))
 gfx_few OnGfx.Lineto os s g h = few_beside s _ (after_lineto AtMost500 os g (few_dropped os h))
 gfx_few OnGfx.Rmoveto os s g h = few_beside s _ (after_rmoveto AtMost500 os g (few_dropped os h))
@@ -139,5 +129,11 @@ gfx_few OnGfx.Arcn os s g h = few_beside s _ (after_arc AtMost500 true os g (few
 gfx_few OnGfx.Currentpoint os s g h = few_beside s _ (after_currentpoint AtMost500 os g (few_on_top os))
 gfx_few OnGfx.Fill os s g h = few_beside s _ (after_fill AtMost500 Nonzero os g (few_dropped os h))
 gfx_few OnGfx.Eofill os s g h = few_beside s _ (after_fill AtMost500 EvenOdd os g (few_dropped os h))
-gfx_few OnGfx.Rectfill os s g h = few_beside s _ (few_rectfill os g h)
+gfx_few OnGfx.Stroke os s g h = few_beside s _ (after_stroke AtMost500 os g (few_dropped os h))
+gfx_few OnGfx.Clip os s g h = few_beside s _ (after_clip AtMost500 Nonzero os g (few_dropped os h))
+gfx_few OnGfx.Eoclip os s g h = few_beside s _ (after_clip AtMost500 EvenOdd os g (few_dropped os h))
+gfx_few OnGfx.Rectfill os s g h = few_beside s _ (after_rectfill AtMost500 os g (few_dropped os h))
+gfx_few OnGfx.Rectstroke os s g h = few_beside s _ (after_rectstroke AtMost500 os g (few_dropped os h))
+gfx_few OnGfx.Rectclip os s g h = few_beside s _ (after_rectclip AtMost500 os g (few_dropped os h))
 gfx_few OnGfx.Erasepage os s g h = h
+gfx_few OnGfx.Setpagedevice os s g h = few_beside s _ (after_setpagedevice AtMost500 os s g (few_dropped os h))

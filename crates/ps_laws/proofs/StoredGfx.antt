@@ -20,13 +20,12 @@ use Rattle.ps_gfx_ops.specs.Easel.{Easel}
 use Rattle.ps_gfx_ops.specs.Scene.{Scene, beside}
 use Rattle.ps_gfx_ops.specs.Colours.{one_component, setgray_row, three_components, setrgbcolor_row, four_components, setcmykcolor_row, on_easel}
 use Rattle.ps_gfx_ops.specs.Matrices.{elements_of, matrix_row, currentmatrix_row}
-use Rattle.ps_gfx_ops.specs.Rectangles.{rectangle_of, or_no_room, filled, with_sides, rectfill_row}
 use Rattle.ps_gfx_ops.specs.Rows.{gfx_row}
 use Rattle.ps_laws.specs.Stored.{Each, IsOf}
 use Rattle.ps_laws.proofs.Operands.{by_test}
 use Rattle.ps_laws.proofs.Each.{Sound, Grown, OfSome, Made, each_drop, are_more, grown_elements, made_array_of}
 use Rattle.ps_laws.proofs.StoredStack.{AreOf, of_pushed}
-use Rattle.ps_laws.proofs.EaselRows.{After, Dropped, InPlace, OnTop, after_gsave, after_moveto, after_lineto, after_rmoveto, after_rlineto, after_curveto, after_rcurveto, after_arc, after_currentpoint, after_fill, after_setmatrix, after_concat, after_translate, after_scale, after_rotate, after_transform, after_itransform}
+use Rattle.ps_laws.proofs.EaselRows.{After, Dropped, InPlace, OnTop, after_gsave, after_moveto, after_lineto, after_rmoveto, after_rlineto, after_curveto, after_rcurveto, after_arc, after_currentpoint, after_fill, after_setmatrix, after_concat, after_translate, after_scale, after_rotate, after_transform, after_itransform, after_stroke, after_clip, after_rectfill, after_rectstroke, after_rectclip, after_setlinewidth, after_setmiterlimit, after_setlinecap, after_setlinejoin, after_setdash, after_setpagedevice}
 
 abbrev pub EaselOf : ℕ → Outcome Easel → Type 0
 EaselOf m outcome = After (Each (IsOf m)) outcome
@@ -77,22 +76,6 @@ of_setcmykcolor : (m : ℕ) (operands : List Obj) (g : Graphics) → Each (IsOf 
 of_setcmykcolor m (black ∷ yellow ∷ magenta ∷ cyan ∷ rest) g h = of_four m (raw_of cyan) (raw_of magenta) (raw_of yellow) (raw_of black) rest g h.1.1.1.1
 of_setcmykcolor m operands g h = tt
 
-of_room : (m : ℕ) (painted : Option Graphics) (rest : List Obj) → Each (IsOf m) rest → EaselOf m (or_no_room painted rest)
-of_room m (Some g) rest h = h
-of_room m None rest h = tt
-
-of_filled : (m : ℕ) (ring : Result (List Spot) PsName) (rest : List Obj) (g : Graphics) → Each (IsOf m) rest → EaselOf m (filled ring rest g)
-of_filled m (Ok ring) rest g h = of_room m (painted g Nonzero (ring ∷ [])) rest h
-of_filled m (Err name) rest g h = tt
-
-of_sides : (m : ℕ) (x y w h : Option ℤ) (rest : List Obj) (g : Graphics) → Each (IsOf m) rest → EaselOf m (with_sides x y w h rest g)
-of_sides m (Some x) (Some y) (Some w) (Some h) rest g few = of_filled m (rectangle_of g.state.matrix x y w h) rest g few
-of_sides m x y w h rest g few = tt
-
-of_rectfill : (m : ℕ) (operands : List Obj) (g : Graphics) → Each (IsOf m) operands → EaselOf m (rectfill_row operands g)
-of_rectfill m (h ∷ w ∷ y ∷ x ∷ rest) g few = of_sides m (raw_of x) (raw_of y) (raw_of w) (raw_of h) rest g few.1.1.1.1
-of_rectfill m operands g few = tt
-
 of_elements : (m : ℕ) (a : Affine) → Each (IsOf m) (elements_of a)
 of_elements m a = (tt, (tt, (tt, (tt, (tt, (tt, tt))))))
 
@@ -119,6 +102,12 @@ gfx_of OnGfx.Gsave os s g h k = of_beside s _ h (after_gsave (Each (IsOf (length
 gfx_of OnGfx.Grestore os s g h k = ((h, omega arith), k)
 gfx_of OnGfx.Grestoreall os s g h k = ((h, omega arith), k)
 gfx_of OnGfx.Initgraphics os s g h k = ((h, omega arith), k)
+gfx_of OnGfx.Setlinewidth os s g h k = of_beside s _ h (after_setlinewidth (Each (IsOf (length s.made))) os g (of_dropped (length s.made) os k))
+gfx_of OnGfx.Setmiterlimit os s g h k = of_beside s _ h (after_setmiterlimit (Each (IsOf (length s.made))) os g (of_dropped (length s.made) os k))
+gfx_of OnGfx.Setlinecap os s g h k = of_beside s _ h (after_setlinecap (Each (IsOf (length s.made))) os g (of_dropped (length s.made) os k))
+gfx_of OnGfx.Setlinejoin os s g h k = of_beside s _ h (after_setlinejoin (Each (IsOf (length s.made))) os g (of_dropped (length s.made) os k))
+gfx_of OnGfx.Setdash os s g h k = of_beside s _ h (after_setdash (Each (IsOf (length s.made))) os s g (of_dropped (length s.made) os k))
+gfx_of OnGfx.Currentlinewidth os s g h k = of_beside s _ h (of_on_easel (length s.made) g _ (of_pushed (length s.made) (Real g.state.line.width) os tt k))
 gfx_of OnGfx.Currentgray os s g h k = of_beside s _ h (of_on_easel (length s.made) g _ (of_pushed (length s.made) (Real (gray_of g.state.space g.state.code.c)) os tt k))
 gfx_of OnGfx.Setgray os s g h k = of_beside s _ h (of_setgray (length s.made) os g k)
 gfx_of OnGfx.Setrgbcolor os s g h k = of_beside s _ h (of_setrgbcolor (length s.made) os g k)
@@ -135,6 +124,7 @@ gfx_of OnGfx.Transform os s g h k = of_beside s _ h (after_transform (Each (IsOf
 gfx_of OnGfx.Itransform os s g h k = of_beside s _ h (after_itransform (Each (IsOf (length s.made))) os g (of_in_place (length s.made) os k))
 gfx_of OnGfx.Newpath os s g h k = ((h, omega arith), k)
 gfx_of OnGfx.Closepath os s g h k = ((h, omega arith), k)
+gfx_of OnGfx.Initclip os s g h k = ((h, omega arith), k)
 gfx_of OnGfx.Moveto os s g h k = of_beside s _ h (after_moveto (Each (IsOf (length s.made))) os g (of_dropped (length s.made) os k))
 gfx_of OnGfx.Lineto os s g h k = of_beside s _ h (after_lineto (Each (IsOf (length s.made))) os g (of_dropped (length s.made) os k))
 gfx_of OnGfx.Rmoveto os s g h k = of_beside s _ h (after_rmoveto (Each (IsOf (length s.made))) os g (of_dropped (length s.made) os k))
@@ -146,5 +136,11 @@ gfx_of OnGfx.Arcn os s g h k = of_beside s _ h (after_arc (Each (IsOf (length s.
 gfx_of OnGfx.Currentpoint os s g h k = of_beside s _ h (after_currentpoint (Each (IsOf (length s.made))) os g (of_on_top (length s.made) os k))
 gfx_of OnGfx.Fill os s g h k = of_beside s _ h (after_fill (Each (IsOf (length s.made))) Nonzero os g (of_dropped (length s.made) os k))
 gfx_of OnGfx.Eofill os s g h k = of_beside s _ h (after_fill (Each (IsOf (length s.made))) EvenOdd os g (of_dropped (length s.made) os k))
-gfx_of OnGfx.Rectfill os s g h k = of_beside s _ h (of_rectfill (length s.made) os g k)
+gfx_of OnGfx.Stroke os s g h k = of_beside s _ h (after_stroke (Each (IsOf (length s.made))) os g (of_dropped (length s.made) os k))
+gfx_of OnGfx.Clip os s g h k = of_beside s _ h (after_clip (Each (IsOf (length s.made))) Nonzero os g (of_dropped (length s.made) os k))
+gfx_of OnGfx.Eoclip os s g h k = of_beside s _ h (after_clip (Each (IsOf (length s.made))) EvenOdd os g (of_dropped (length s.made) os k))
+gfx_of OnGfx.Rectfill os s g h k = of_beside s _ h (after_rectfill (Each (IsOf (length s.made))) os g (of_dropped (length s.made) os k))
+gfx_of OnGfx.Rectstroke os s g h k = of_beside s _ h (after_rectstroke (Each (IsOf (length s.made))) os g (of_dropped (length s.made) os k))
+gfx_of OnGfx.Rectclip os s g h k = of_beside s _ h (after_rectclip (Each (IsOf (length s.made))) os g (of_dropped (length s.made) os k))
 gfx_of OnGfx.Erasepage os s g h k = ((h, omega arith), k)
+gfx_of OnGfx.Setpagedevice os s g h k = of_beside s _ h (after_setpagedevice (Each (IsOf (length s.made))) os s g (of_dropped (length s.made) os k))

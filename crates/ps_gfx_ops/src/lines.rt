@@ -1,0 +1,163 @@
+//! Operators on the line parameters.
+ghost use Rattle.std.specs.Prelude.{◌≡◌, ◌≤◌, OnOk, IfOk, Some, None, length, map, true};
+ghost use Rattle.std.specs.List.{list_all};
+ghost use Rattle.ps_store.specs.Outcome.{Answers};
+ghost use Rattle.gfx_state.specs.Graphics.{with_dash};
+ghost use Rattle.ps_gfx_ops.specs.Matrices.{is_number};
+ghost use Rattle.ps_gfx_ops.specs.Lines.{integer_or_type, one_integer, number_in, dash_operands, setlinewidth_row, setmiterlimit_row, setlinecap_row, setlinejoin_row, setdash_row, currentlinewidth_row};
+
+use crate::matrices::are_numbers;
+use crate::points::one_number;
+use gfx_state::{DashFault, Gfx};
+use press_fault::{Mem, PsName, RangeCheck, UndefinedResult};
+use press_nums::{Fix, Whole};
+use ps_store::{Obj, OpFault, Stack, Store, number};
+use std::alloc::Global;
+
+/// The integer that the top operand is.
+fn one_integer(stack: &Stack) -> Result<Whole, PsName>
+    ensures value { result ≡ one_integer stack.now }
+    ensures enough { OnOk result (1 ≤ length stack.now) }
+{
+    let Some(top) = stack.top() else {
+        return Err(PsName::StackUnderflow);
+    };
+    match top {
+        Obj::Int(n) => Ok(*n),
+        _ => Err(PsName::TypeCheck),
+    }
+}
+
+/// `setlinewidth`: the width of lines, taken without its sign.
+pub(crate) fn setlinewidth(stack: &mut Stack, gfx: &mut Gfx) -> Result<(), OpFault>
+    ensures { Answers (setlinewidth_row stack.old gfx.old) result
+        (record { operands = stack.old; graphics = gfx.old })
+        (record { operands = stack.new; graphics = gfx.new }) }
+{
+    let width = one_number(stack)?;
+    match gfx.set_width(width) {
+        Ok(()) => {
+            stack.drop_top(1);
+            Ok(())
+        }
+        Err(UndefinedResult) => Err(OpFault::Ps(PsName::UndefinedResult)),
+    }
+}
+
+/// `setmiterlimit`: where miters become bevels.
+pub(crate) fn setmiterlimit(stack: &mut Stack, gfx: &mut Gfx) -> Result<(), OpFault>
+    ensures { Answers (setmiterlimit_row stack.old gfx.old) result
+        (record { operands = stack.old; graphics = gfx.old })
+        (record { operands = stack.new; graphics = gfx.new }) }
+{
+    let limit = one_number(stack)?;
+    match gfx.set_miter(limit) {
+        Ok(()) => {
+            stack.drop_top(1);
+            Ok(())
+        }
+        Err(RangeCheck) => Err(OpFault::Ps(PsName::RangeCheck)),
+    }
+}
+
+/// `setlinecap`: how open lines end.
+pub(crate) fn setlinecap(stack: &mut Stack, gfx: &mut Gfx) -> Result<(), OpFault>
+    ensures { Answers (setlinecap_row stack.old gfx.old) result
+        (record { operands = stack.old; graphics = gfx.old })
+        (record { operands = stack.new; graphics = gfx.new }) }
+{
+    let n = one_integer(stack)?;
+    match gfx.set_cap(n) {
+        Ok(()) => {
+            stack.drop_top(1);
+            Ok(())
+        }
+        Err(RangeCheck) => Err(OpFault::Ps(PsName::RangeCheck)),
+    }
+}
+
+/// `setlinejoin`: how segments meet.
+pub(crate) fn setlinejoin(stack: &mut Stack, gfx: &mut Gfx) -> Result<(), OpFault>
+    ensures { Answers (setlinejoin_row stack.old gfx.old) result
+        (record { operands = stack.old; graphics = gfx.old })
+        (record { operands = stack.new; graphics = gfx.new }) }
+{
+    let n = one_integer(stack)?;
+    match gfx.set_join(n) {
+        Ok(()) => {
+            stack.drop_top(1);
+            Ok(())
+        }
+        Err(RangeCheck) => Err(OpFault::Ps(PsName::RangeCheck)),
+    }
+}
+
+/// `setdash`: dashes and gaps in turn, and how far along them a line begins.
+pub(crate) fn setdash(
+    alloc: Global,
+    stack: &mut Stack,
+    store: &Store,
+    gfx: &mut Gfx,
+) -> Result<(), OpFault>
+    ensures { Answers (setdash_row stack.old store.now gfx.old) result
+        (record { operands = stack.old; graphics = gfx.old })
+        (record { operands = stack.new; graphics = gfx.new }) }
+{
+    let Some((offset, dashes)) = stack.top_two() else {
+        return Err(OpFault::Ps(PsName::StackUnderflow));
+    };
+    let Obj::Array(span, _) = dashes else {
+        return Err(OpFault::Ps(PsName::TypeCheck));
+    };
+    let objects = store.objects(*span);
+    if !are_numbers(objects) {
+        return Err(OpFault::Ps(PsName::TypeCheck));
+    }
+    let Some(offset) = number(offset) else {
+        return Err(OpFault::Ps(PsName::TypeCheck));
+    };
+    let Ok(lengths) = numbers(alloc, objects) else {
+        return Err(OpFault::NoMemory);
+    };
+    match gfx.set_dash(&lengths, offset) {
+        Ok(()) => {
+            stack.drop_top(2);
+            Ok(())
+        }
+        Err(DashFault::RangeCheck) => Err(OpFault::Ps(PsName::RangeCheck)),
+        Err(DashFault::LimitCheck) => Err(OpFault::Ps(PsName::LimitCheck)),
+        Err(DashFault::NoMemory) => Err(OpFault::NoMemory),
+    }
+}
+
+/// The numbers that objects are, 0 for one that is none.
+fn numbers(alloc: Global, objects: &[Obj]) -> Mem<Vec<Fix>>
+    ensures { IfOk result (λ numbers. numbers.items ≡ map number_in objects.now) }
+{
+    let mut numbers = Vec::new(alloc);
+    for o in objects {
+        numbers.push(number_or_zero(o))?;
+    }
+    Ok(numbers)
+}
+
+fn number_or_zero(o: &Obj) -> Fix
+    ensures { result ≡ number_in o.now }
+{
+    match number(o) {
+        Some(n) => n,
+        None => Fix::of_int(0),
+    }
+}
+
+/// `currentlinewidth`: the width of lines.
+pub(crate) fn currentlinewidth(stack: &mut Stack, gfx: &Gfx) -> Result<(), OpFault>
+    ensures { Answers (currentlinewidth_row stack.old gfx.now) result
+        (record { operands = stack.old; graphics = gfx.now })
+        (record { operands = stack.new; graphics = gfx.now }) }
+{
+    match stack.push(Obj::Real(gfx.width())) {
+        Ok(()) => Ok(()),
+        Err(_) => Err(OpFault::Ps(PsName::StackOverflow)),
+    }
+}
