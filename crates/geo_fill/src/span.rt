@@ -59,7 +59,8 @@ impl Spans {
         }
     }
 
-    /// Adds a span behind all others; each of them ends before its first column.
+    /// Adds a span behind all others; each of them ends before its first column. Out of memory
+    /// leaves the spans as before.
     #[tactic(auto, using(crate::proofs::Apart::apart_more))]
     pub fn push(&mut self, span: Span) -> Mem<()>
         requires { EndBefore span.first self.old }

@@ -9,7 +9,8 @@ use press_fault::UndefinedResult;
 use press_nums::{Fix, Wide, fix_from, wide_product};
 use std::marker::Model;
 
-/// The matrix `[a b c d tx ty]`: a point (x, y) goes to (a x + c y + tx, b x + d y + ty).
+/// The matrix `[a b c d tx ty]`: a point (x, y) goes to (a x + c y + tx, b x + d y + ty). One
+/// that maps user space to the page gives dots, so `tx` and `ty` are in dots.
 #[derive(Clone, Copy, Debug, PartialEq, Eq)]
 pub struct Matrix {
     pub a: Fix,
@@ -49,6 +50,7 @@ impl Matrix {
 /// The matrix that does `first` and then `then`, refused exactly where an element is out of range.
 ///
 /// Each element is one sum of products, rounded once. The operator `concat` puts its matrix first.
+/// (PostScript Language Reference, third edition, 4.3.3 Matrix Representation and Manipulation.)
 pub fn concat(first: &Matrix, then: &Matrix) -> Result<Matrix, UndefinedResult>
     ensures { result_ok result ≡ concat_of first.now then.now }
 {

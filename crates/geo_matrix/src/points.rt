@@ -11,7 +11,7 @@ use press_fault::{LimitCheck, Point, UndefinedResult};
 use press_nums::{Fix, Wide, fix_from};
 use std::marker::Model;
 
-/// A point whose coordinates are real numbers.
+/// A point whose coordinates are real numbers: in units of user space, or in dots of the page.
 #[derive(Clone, Copy, Debug, PartialEq, Eq)]
 pub struct RealPoint {
     pub x: Fix,
@@ -28,8 +28,8 @@ impl Model for RealPoint {
     ghost inverse = { λ p. record { x = p.x; y = p.y } };
 }
 
-/// Where the matrix puts a user point, in sub-dots: refused exactly where a coordinate has magnitude
-/// 2^31 or more.
+/// Where the matrix puts a user point, in sub-dots: refused exactly where a coordinate has
+/// magnitude 2^31 or more.
 pub fn to_dots(m: &Matrix, x: Fix, y: Fix) -> Result<Point, LimitCheck>
     ensures value { result_ok result ≡ dots_of m.now x y }
     ensures near { IfOk result (λ p. IsNear p) }
@@ -40,7 +40,8 @@ pub fn to_dots(m: &Matrix, x: Fix, y: Fix) -> Result<Point, LimitCheck>
     )
 }
 
-/// What a relative step adds to a point, in sub-dots: the same without the translation.
+/// What a relative step adds to a point, in sub-dots: the same without the translation, and
+/// refused exactly where a coordinate of the step has magnitude 2^31 or more.
 pub fn by_dots(m: &Matrix, dx: Fix, dy: Fix) -> Result<Point, LimitCheck>
     ensures value { result_ok result ≡ step_dots_of m.now dx dy }
     ensures near { IfOk result (λ p. IsNear p) }
@@ -51,7 +52,7 @@ pub fn by_dots(m: &Matrix, dx: Fix, dy: Fix) -> Result<Point, LimitCheck>
     )
 }
 
-/// Where the matrix puts a user point, as real numbers; refused exactly out of range.
+/// Where the matrix puts a user point, in dots as real numbers; refused exactly out of range.
 pub fn device_of(m: &Matrix, x: Fix, y: Fix) -> Result<RealPoint, UndefinedResult>
     ensures { result_ok result ≡ device_of m.now x y }
 {
@@ -70,7 +71,8 @@ pub fn user_of(m: &Matrix, x: Fix, y: Fix) -> Result<RealPoint, UndefinedResult>
     inverse(m, x.wide(), y.wide())
 }
 
-/// The user point of a point of the page; refused exactly for a zero determinant or out of range.
+/// The user point of a point of the page, which is in sub-dots; refused exactly for a zero
+/// determinant or out of range.
 pub fn back(m: &Matrix, p: Point) -> Result<RealPoint, UndefinedResult>
     ensures { result_ok result ≡ back_of m.now p }
 {

@@ -57,7 +57,7 @@ impl Lines {
         }
     }
 
-    /// Adds a chain of lines at the end.
+    /// Adds a chain of lines at the end. Out of memory leaves the lines as before.
     pub fn push(&mut self, line: Line) -> Mem<()>
         requires { IsNearLine line }
         ensures ok { OnOk result (self.new ≡ self.old ++ line ∷ []) }
@@ -89,7 +89,8 @@ impl Lines {
 }
 
 impl Path {
-    /// The path as straight lines: a chain for each subpath, the curves cut into pieces.
+    /// The path as straight lines: a chain for each subpath, the curves cut into pieces
+    /// (PostScript Language Reference, third edition, 8.2 `flattenpath`).
     pub fn flatten(&self) -> Mem<Lines>
         ensures { IfOk result (λ lines. lines ≡ lines_of self.now) }
     {

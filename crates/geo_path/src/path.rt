@@ -157,8 +157,9 @@ impl Path {
         self.parts.close();
     }
 
-    /// Adds an arc of a circle round the user point (x, y), by angles in degrees: `arcn` where it is
-    /// clockwise. Its first point is a line from the current point, or a move where there is none.
+    /// Adds an arc of a circle round the user point (x, y), its radius in units of user space and
+    /// its angles in degrees: `arcn` where it is clockwise (PostScript Language Reference, third
+    /// edition, 8.2 `arc`, `arcn`). It begins with a line from the current point, or a move.
     ///
     /// Its end is first raised, or lowered, by whole turns to the right side of its start. The first
     /// refusal that is met is the answer: the end, then point by point the real numbers, the sub-dots

@@ -88,7 +88,8 @@ impl Dashes {
         }
     }
 
-    /// Adds the length of a dash or a gap at the end; a refusal leaves the list as before.
+    /// Adds the length of a dash or a gap, in 1/65536 of a dot, at the end; a refusal, by the
+    /// limit or out of memory, leaves the list as before.
     pub fn push(&mut self, dash: u64) -> Result<(), Grow>
         requires { IsDash dash }
         ensures ok { OnOk result (self.new ≡ self.old ++ dash ∷ []) }
@@ -109,7 +110,7 @@ impl Dashes {
         self.lengths.iter().all(|dash| *dash == 0)
     }
 
-    /// The lengths, in order.
+    /// The lengths in 1/65536 of a dot, in order.
     pub fn items(&self) -> &[u64]
         ensures value { result.now ≡ self.now }
         ensures pattern { IsPattern result.now }
@@ -162,7 +163,7 @@ impl Pen {
         Wide::of(self.half)
     }
 
-    /// The miter limit's raw value, for products and comparisons.
+    /// The miter limit in 1/65536, for products and comparisons.
     pub fn wide_miter(&self) -> Wide
         ensures value { result ≡ self.now.miter }
         ensures least { pos 65536 ≤ℤ result }
@@ -171,7 +172,7 @@ impl Pen {
         Wide::of(self.miter.raw())
     }
 
-    /// How far along the pattern a line begins, for sums and remainders.
+    /// How far along the pattern a line begins, in 1/65536 of a dot, for sums and remainders.
     pub fn wide_offset(&self) -> Wide
         ensures value { result ≡ self.now.offset }
         ensures bound { unsigned_abs result < 2 ^ 62 }

@@ -14,7 +14,8 @@ use crate::{Disc, Image, Ink, Mark, Page, Paint, Region, Rule, Shape};
 use press_fault::Code;
 use press_nums::Wide;
 
-/// Whether a mark covers the dot of a row and a column.
+/// Whether a mark covers the dot of a row and a column, by the dot's centre (PostScript
+/// Language Reference, third edition, 4.5 Painting).
 #[tactic(auto, unfolding(crate::specs::Cover::covers_dot))]
 pub fn covers(mark: &Mark, row: u32, col: u32) -> bool
     ensures { result ≡ covers_dot row col mark.now }
@@ -99,13 +100,15 @@ pub trait Table {
     /// The colour of a source's code.
     ghost tint: { Self → ℕ → Channels → List ℕ };
 
+    /// The red, green and blue, from 0 to 255, of a source's code.
     fn colour(&self, source: u32, code: Code) -> [u8; 3]
         requires known { source < sources self.now }
         requires code { code.n ≡ channels self.now source }
         ensures { result ≡ tint self.now source code };
 }
 
-/// The colour of a plain code.
+/// The red, green and blue, from 0 to 255, of a plain code (PostScript Language Reference,
+/// third edition, 7.2 Conversions among Device Color Spaces).
 pub fn plain_rule(code: Code) -> [u8; 3]
     ensures { result ≡ plain_rgb code }
 {
@@ -127,7 +130,8 @@ fn light(ink: u8, black: u8) -> u8
     255 - ink.saturating_add(black)
 }
 
-/// The colour of the last mark that covers a dot, white where none does.
+/// The red, green and blue, from 0 to 255, of the last mark that covers a dot; white where none
+/// does.
 #[tactic(auto, unfolding(crate::specs::Cover::dot_rgb))]
 pub fn plain_dot<T: Table>(page: &Page, row: u32, col: u32, table: &T) -> [u8; 3]
     requires sources { page.now.sources ≤ T.sources table.now }

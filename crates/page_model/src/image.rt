@@ -88,7 +88,7 @@ impl Model for ImageMap {
     ghost inverse = { λ v. record { a = v.a; b = v.b; c = v.c; d = v.d; tx = v.tx; ty = v.ty; den = v.den } };
 }
 
-/// A sampled image on the page.
+/// A sampled image on the page (PostScript Language Reference, third edition, 4.10 Images).
 ///
 /// `rows` counts the rows of samples that are there; `channels` is 1, 3 or 4; `codes` has
 /// `width * rows * channels` bytes, at most 67,108,864. `source` is the number of the profile

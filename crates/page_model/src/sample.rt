@@ -7,7 +7,8 @@ use crate::{Image, ImageMap};
 use press_fault::Code;
 use press_nums::Wide;
 
-/// The number of the sample of a dot, row by row; None where the dot is outside the image.
+/// The number of the sample that a dot's centre lies in, row by row from 0; `None` where it
+/// lies outside the image (PostScript Language Reference, third edition, 4.10 Images).
 #[tactic(auto, unfolding(crate::specs::Sample::sample_at))]
 pub fn sample_at(image: &Image, row: u32, col: u32) -> Option<u32>
     ensures value { result ≡ sample_at image.now row col }
@@ -85,7 +86,7 @@ fn place_of(count: u32, n: Wide) -> Option<u32>
     }
 }
 
-/// The code of a sample.
+/// The code of the sample of a number, counted row by row from 0.
 #[tactic(auto, unfolding(crate::specs::Sample::code_at))]
 pub fn code_at(image: &Image, sample: u32) -> Code
     requires { sample < image.now.width * image.now.rows }
@@ -114,7 +115,7 @@ fn value_at(image: &Image, sample: u32, channel: u8) -> u8
     }
 }
 
-/// Whether a mask paints at a sample.
+/// Whether a mask paints at the sample of a number, counted row by row from 0.
 #[tactic(auto, unfolding(crate::specs::Sample::mask_paints))]
 pub fn mask_paints(image: &Image, sample: u32) -> bool
     requires sample { sample < image.now.width * image.now.rows }

@@ -7,7 +7,8 @@ use press_nums::Wide;
 use std::alloc::Global;
 use std::marker::Model;
 
-/// The inside rule of a polygon.
+/// The inside rule of a polygon (PostScript Language Reference, third edition, 4.5 Painting:
+/// the nonzero winding number rule and the even-odd rule).
 #[derive(Clone, Copy, Debug, PartialEq, Eq)]
 pub enum Rule {
     Nonzero,
@@ -35,7 +36,7 @@ impl Model for Disc {
 }
 
 impl Disc {
-    /// The disc round a point.
+    /// The disc round a point, by its radius in sub-dots.
     pub fn new(centre: Point, r: u64) -> Disc
         requires { r < 2 ^ 44 }
         ensures { result ≡ record { x = centre.x; y = centre.y; r = r } }

@@ -4,7 +4,8 @@ ghost use Rattle.press_fault.specs.Plane.{IsWithin};
 use press_nums::Wide;
 use std::marker::Model;
 
-/// A point of the page, in sub-dots (1/256 of a dot), y downwards. Each coordinate's magnitude is below 2^44.
+/// A point of the page, in sub-dots (1/256 of a dot), y downwards. Each coordinate's magnitude is
+/// below 2^44.
 #[derive(Clone, Copy, Debug, PartialEq, Eq)]
 pub struct Point {
     pub x: i64,
@@ -62,7 +63,8 @@ impl Point {
     }
 }
 
-/// A colour code: `n` channels, 1, 3 or 4, and their values; unused places are 0.
+/// A colour code: `n` channels and their values, from 0 to 255; unused places are 0. One
+/// channel is gray, three are red, green and blue, four are cyan, magenta, yellow and black.
 #[derive(Clone, Copy, Debug, PartialEq, Eq)]
 pub struct Code {
     pub n: u8,
@@ -82,7 +84,7 @@ impl Model for Code {
 }
 
 impl Code {
-    /// The code of red, green and blue.
+    /// The code of red, green and blue, each from 0 to 255.
     pub fn rgb(red: u8, green: u8, blue: u8) -> Code
         ensures { result ≡ record { n = 3; c = red ∷ green ∷ blue ∷ 0 ∷ [] } }
     {
@@ -92,7 +94,7 @@ impl Code {
         }
     }
 
-    /// The code of a gray, 0 for black.
+    /// The code of a gray, from 0 for black to 255 for white.
     pub fn gray(value: u8) -> Code
         ensures { result ≡ record { n = 1; c = value ∷ 0 ∷ 0 ∷ 0 ∷ [] } }
     {

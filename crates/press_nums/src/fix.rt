@@ -7,7 +7,9 @@ use crate::whole::Whole;
 use crate::wide::Wide;
 use std::marker::Model;
 
-/// A number of 1/65536, from -2^47 to 2^47 - 1 of them.
+/// A number of 1/65536, from -2^47 to 2^47 - 1 of them: a real number of a program, whose form
+/// the standard leaves open (PostScript Language Reference, third edition, 3.3.2 Numeric
+/// Objects).
 #[derive(Clone, Copy, Debug, PartialEq, Eq, Hash)]
 pub struct Fix {
     n: i64,
@@ -27,7 +29,7 @@ impl Model for Fix {
 }
 
 impl Fix {
-    /// The number of an integer.
+    /// The integer as a real number, exactly.
     pub fn of_int(v: i32) -> Fix
         ensures { result ≡ v *ℤ pos 65536 }
     {
@@ -36,7 +38,7 @@ impl Fix {
         }
     }
 
-    /// The number of an integer.
+    /// The integer as a real number, exactly.
     pub fn of_whole(v: Whole) -> Fix
         ensures { result ≡ v *ℤ pos 65536 }
     {
@@ -62,7 +64,7 @@ impl Fix {
         self.n
     }
 
-    /// The raw value, for sums, products and comparisons.
+    /// How many 1/65536 it is, for sums, products and comparisons.
     pub fn wide(self) -> Wide
         ensures value { result ≡ self }
         ensures bound { unsigned_abs result ≤ 2 ^ 47 }
@@ -153,7 +155,7 @@ pub fn fix_sub(a: Fix, b: Fix) -> Option<Fix>
     fix_from(a.wide() - b.wide())
 }
 
-/// The product of two Fix.
+/// The exact product of two Fix, a count of 1/2^32.
 pub fn wide_product(a: Fix, b: Fix) -> Wide
     ensures value { result ≡ a *ℤ b }
     ensures bound { unsigned_abs result ≤ 2 ^ 94 }
@@ -180,7 +182,7 @@ pub fn fix_div(a: Fix, b: Fix) -> Option<Fix>
     }
 }
 
-/// A small number of 1/65536.
+/// The Fix of so many 1/65536, for a caller that knows it to be in range.
 pub fn fix_small(raw: Wide) -> Fix
     requires { unsigned_abs raw < 2 ^ 47 }
     ensures { result ≡ raw }

@@ -5,7 +5,8 @@ ghost use Rattle.press_nums.specs.Whole.{whole_of, whole_quotient_of, whole_rest
 use crate::wide::Wide;
 use std::marker::Model;
 
-/// An integer of 32 bits, which contracts see as a whole number.
+/// An integer of 32 bits, which contracts see as a whole number (PostScript Language Reference,
+/// third edition, 3.3.2 Numeric Objects).
 #[derive(Clone, Copy, Debug, PartialEq, Eq, Hash)]
 pub struct Whole {
     n: i32,

@@ -12,8 +12,10 @@ use crate::values::{cvlit, cvn, cvx, push, type_, xcheck};
 use ps_scan::Scanner;
 use ps_store::{DataOp, Dicts, Obj, OpFault, SYSTEMDICT, Stack, Store, USERDICT};
 
-/// Does a data operator, exactly as its row says. A refusal leaves the operands, the store, the
-/// dictionary stack and the place in the program as they were.
+/// Does a data operator, exactly as its row says (PostScript Language Reference, third edition,
+/// 8.2 Operator Details). A refusal by an error of the language leaves the operands, the store,
+/// the dictionary stack and the place in the program as they were; after out of memory nothing
+/// is said of them.
 #[tactic(auto, using(crate::proofs::Within::answers_within), unfolding(crate::specs::Rows::data_row))]
 pub fn run_data(
     op: DataOp,

@@ -12,9 +12,9 @@ use std::marker::Model;
 /// The most levels.
 pub const MAX_LEVELS: usize = 250;
 
-/// The levels that are open, at most 250. Contracts see them as a list, the innermost first.
-///
-/// The room for all levels is made with it, so only what a `forall` goes over takes memory later.
+/// The levels that are open, at most 250 (PostScript Language Reference, third edition, 3.4
+/// Stacks). Contracts see them as a list, the innermost first. The room for all levels is made
+/// with it, so only what a `forall` goes over takes memory later.
 #[derive(Drop)]
 pub struct Flow {
     alloc: Global,
@@ -61,7 +61,8 @@ impl Flow {
         self.items.push(level);
     }
 
-    /// Opens a level that runs the elements of a procedure, as for one found by a name.
+    /// Opens a level that runs the elements of a procedure, as for one found by a name. Where
+    /// all levels are open it is refused, and they are as before.
     pub fn call(&mut self, p: Span) -> Result<(), ExecStackOverflow>
         ensures ok { OnOk result (self.new ≡ Level.Procedure p ∷ self.old) }
         ensures full { IsErr result ↔ (250 ≤ length self.old) }

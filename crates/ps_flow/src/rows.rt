@@ -18,10 +18,10 @@ use std::alloc::Global;
 /// What the operators answer: an object that is to be executed at once, or why not.
 type Then = Result<Option<Obj>, OpFault>;
 
-/// Does what an operator does, exactly as its row says.
-///
-/// It answers the object that is to be executed at once, before the next one: what `exec` or `stopped` found and is no
-/// procedure. After `stop` true is to be pushed.
+/// Does what an operator does, exactly as its row says (PostScript Language Reference, third
+/// edition, 8.2 Operator Details). It answers what `exec` or `stopped` found that is no
+/// procedure, to be executed at once; after `stop` true is to be pushed. An error of the language
+/// leaves operands, levels and store as they were; after out of memory nothing is said of them.
 #[tactic(auto, unfolding(crate::specs::Rows::flow_row))]
 pub fn run_flow(
     op: FlowOp,

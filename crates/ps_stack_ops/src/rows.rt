@@ -15,10 +15,8 @@ use crate::manipulation::{
 use press_fault::PsName;
 use ps_store::{Obj, OpFault, Stack, StackOp, Store};
 
-/// Does what an operator does, exactly as its row says.
-///
-/// A refusal leaves operands and store as before. Out of memory comes only from `copy` of a
-/// dictionary, and then both are only good to be dropped.
+/// Does what an operator does, exactly as its row says. A refusal by an error of the language
+/// leaves operands and store as before; after out of memory nothing is said of them.
 #[tactic(auto, using(crate::proofs::Lifted::lifted), unfolding(crate::specs::Rows::stack_row))]
 pub fn run_stack(op: StackOp, stack: &mut Stack, store: &mut Store) -> Result<(), OpFault>
     ensures { Answers (stack_row op stack.old store.old) result

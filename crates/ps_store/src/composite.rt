@@ -136,7 +136,7 @@ impl Elements {
         }
     }
 
-    /// The object at a place.
+    /// The object at a place, from 0; `None` outside.
     pub fn get(&self, at: usize) -> Option<&Obj>
         ensures { option_copied result ≡ slice_get self.now at }
     {

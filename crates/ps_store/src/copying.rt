@@ -17,7 +17,8 @@ use std::mem;
 
 impl Store {
     /// Copies the items of a part of a string or an array to the first places of another part,
-    /// as they were before the first place was written. It takes no memory.
+    /// as they were before the first place was written (PostScript Language Reference, third
+    /// edition, 8.2 copy). A part outside its composite changes nothing. It takes no memory.
     pub fn copy_part(&mut self, from: Span, to: Span)
         ensures { self.new ≡ copied_part self.old from to }
     {
@@ -39,8 +40,10 @@ impl Store {
         self.made[id] = target;
     }
 
-    /// Defines the entries of a dictionary in another one, in their order. Only keys that the
-    /// other one lacks count against the limits, and a limit refuses all of them.
+    /// Defines the entries of a dictionary in another one, in their order (PostScript Language
+    /// Reference, third edition, 8.2 copy). Only keys that the other one lacks count against
+    /// the limits. A limit refuses all of them, with the store as it was; after out of memory
+    /// nothing is said of the store.
     pub fn copy_entries(&mut self, from: u32, to: u32) -> Result<(), Grow>
         ensures ok { OnOk result (copied_entries self.old from to ≡ Some self.new) }
         ensures limit { IsErrOf result Grow.LimitCheck ↔ (copied_entries self.old from to ≡ None) }

@@ -17,7 +17,8 @@ pub const SYSTEMDICT: u32 = 0;
 /// The number of `userdict`.
 pub const USERDICT: u32 = 1;
 
-/// The dictionary stack, of 2 to 20 dictionaries. Contracts see their numbers, the top one first.
+/// The dictionary stack, of 2 to 20 dictionaries (PostScript Language Reference, third edition,
+/// 3.4 Stacks). Contracts see their numbers, the top one first.
 #[derive(Drop)]
 pub struct Dicts {
     items: ArrayVec<u32, 20>,
@@ -34,7 +35,8 @@ impl Model for Dicts {
 }
 
 impl Dicts {
-    /// Makes `systemdict` and `userdict`, both empty, and the stack that holds these two.
+    /// Makes `systemdict` and `userdict`, both empty, and the stack that holds these two. After
+    /// out of memory nothing is said of the store.
     pub fn new(store: &mut Store) -> Mem<Dicts>
         requires { store.old.made ≡ [] }
         ensures ok { IfOk result (λ dicts. dicts ≡ 1 ∷ 0 ∷ []) }
@@ -50,7 +52,7 @@ impl Dicts {
         Ok(Dicts { items })
     }
 
-    /// Puts a dictionary on top.
+    /// Puts the dictionary of a number on top. A full stack refuses it, and is as before.
     pub fn push(&mut self, dict: u32) -> Result<(), DictStackOverflow>
         ensures ok { OnOk result (self.new ≡ dict ∷ self.old) }
         ensures room { OnOk result (length self.old < 20) }
@@ -63,7 +65,8 @@ impl Dicts {
         }
     }
 
-    /// Takes the top dictionary away. The lowest two stay.
+    /// Takes the top dictionary away, and answers its number. The lowest two stay: a stack of
+    /// these alone refuses, and is as before.
     pub fn pop(&mut self) -> Result<u32, DictStackUnderflow>
         ensures ok { IfOk result (λ dict. self.old ≡ dict ∷ self.new) }
         ensures more { OnOk result (2 < length self.old) }
@@ -88,7 +91,7 @@ impl Dicts {
         self.items.len() as u32
     }
 
-    /// The dictionary at a place, from the bottom.
+    /// The number of the dictionary at a place, counted from 0 at the bottom.
     pub fn at(&self, place: u32) -> u32
         requires { place < length self.now }
         ensures { slice_get (reverse self.now) place ≡ Some result }
@@ -96,7 +99,7 @@ impl Dicts {
         self.items[place as usize]
     }
 
-    /// The top dictionary.
+    /// The number of the top dictionary.
     pub fn top(&self) -> u32
         ensures { self.now ≡ result ∷ drop 1 self.now }
     {
@@ -117,7 +120,7 @@ impl Dicts {
         find_from_top(&self.items, store, &Key::Named(*name))
     }
 
-    /// The topmost dictionary that has a key.
+    /// The number of the topmost dictionary that has a key, `None` where none has it.
     pub fn home(&self, store: &Store, key: &Key) -> Option<u32>
         ensures { result ≡ home_of store.now self.now key.now }
     {

@@ -59,15 +59,15 @@ impl Entries {
         self.map.get(key)
     }
 
-    /// The key and the value at a place.
+    /// The key and the value at a place, from 0, in the order of first definition.
     pub fn at(&self, place: usize) -> Option<(&Key, &Obj)>
         ensures { option_map deref_pair result ≡ slice_get self.now place }
     {
         self.map.get_index(place)
     }
 
-    /// Gives a key a value, and tells whether it is a new key. One that is there keeps its place
-    /// and its kind.
+    /// Gives a key a value, and tells whether it is a new key. One that is there keeps its
+    /// place and its kind. Out of memory leaves the entries as before.
     pub fn define(&mut self, key: Key, value: Obj) -> Mem<bool>
         requires { IsNone (lookup (same_key key) self.old) → length self.old < 65535 }
         ensures ok { OnOk result (self.new ≡ insert_entry same_key self.old key value) }

@@ -55,7 +55,8 @@ impl Store {
         Entries::new(self.alloc)
     }
 
-    /// Makes a dictionary of these entries.
+    /// Makes a dictionary of these entries, and answers its number. A refusal, by a limit or
+    /// out of memory, leaves the store as it was.
     pub fn new_dict_of(&mut self, entries: Entries) -> Result<u32, Grow>
         ensures ok { IfOk result (λ dict. with_dict_of self.old entries ≡ Some (dict, self.new)) }
         ensures limit { IsErrOf result Grow.LimitCheck ↔ (with_dict_of self.old entries ≡ None) }

@@ -7,7 +7,8 @@ use press_fault::Name;
 use press_nums::{Fix, Whole};
 use std::hash::{Hash, Hasher};
 
-/// A key of a dictionary. A string is the name of its bytes, and a number keeps its kind.
+/// A key of a dictionary. A string is the name of its bytes, and a number keeps its kind
+/// (PostScript Language Reference, third edition, 3.3.9 Dictionary Objects).
 #[derive(Clone, Copy, Debug)]
 pub enum Key {
     Named(Name),

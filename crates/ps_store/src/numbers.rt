@@ -26,7 +26,7 @@ pub fn place_in(n: Whole, len: u32) -> Option<u32>
     }
 }
 
-/// The number that an object is, `None` where it is none.
+/// The real number that an object is, an integer being one too; `None` where it is no number.
 pub fn number(o: &Obj) -> Option<Fix>
     ensures { result ≡ raw_of o.now }
 {

@@ -25,7 +25,9 @@ impl Model for Span {
     ghost inverse = { λ p. record { id = p.id; start = p.start; len = p.len } };
 }
 
-/// An object. The flag of a name or an array says that it is executable.
+/// An object (PostScript Language Reference, third edition, 3.3 Data Types and Objects). A
+/// string or an array is a part of a composite of the store, a dictionary the number of one.
+/// The flag of a name or an array says that it is executable.
 #[derive(Clone, Copy, Debug, PartialEq, Eq)]
 pub enum Obj {
     Null,

@@ -159,7 +159,8 @@ pub enum PageOp {
     Showpage = 134,
 }
 
-/// An operator. Its crate is that of its kind.
+/// An operator (PostScript Language Reference, third edition, 8.1 Operator Summary). Its crate
+/// is that of its kind.
 #[derive(Clone, Copy, Debug, PartialEq, Eq)]
 pub enum Oper {
     Stack(StackOp),

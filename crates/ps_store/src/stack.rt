@@ -48,7 +48,7 @@ impl Stack {
         self.items.len()
     }
 
-    /// Puts an object on top. A full stack refuses it.
+    /// Puts an object on top. A full stack refuses it, and is as before.
     pub fn push(&mut self, o: Obj) -> Result<(), StackOverflow>
         ensures ok { OnOk result (self.new ≡ o ∷ self.old) }
         ensures err { OnErr result (self.new ≡ self.old) }
@@ -248,7 +248,7 @@ impl Stack {
         repeat_from(&mut self.items, from);
     }
 
-    /// Turns the top `n` operands round: the first `j` of them go below the others.
+    /// Turns the top `n` operands round: the top `j` of them go below the others.
     pub fn roll(&mut self, n: usize, j: usize)
         requires held { n ≤ length self.old }
         requires part { j ≤ n }

@@ -17,7 +17,7 @@ use press_nums::Whole;
 use std::alloc::Global;
 use std::marker::Model;
 
-/// A composite.
+/// A composite: a string, an array or a dictionary.
 #[derive(Drop)]
 pub enum Composite {
     Text(Bytes),
@@ -25,7 +25,9 @@ pub enum Composite {
     Dict(Entries),
 }
 
-/// The composites that a program made. None is ever taken away.
+/// The composites that a program made, numbered from 0 (PostScript Language Reference, third
+/// edition, 3.7 Memory Management). None is ever taken away. A byte of a string counts 1 unit,
+/// an element of an array 16, an entry of a dictionary 32.
 #[derive(Drop)]
 pub struct Store {
     pub(crate) alloc: Global,
@@ -56,7 +58,8 @@ impl Store {
         }
     }
 
-    /// Whether so many more composites and units stay within the limits.
+    /// Whether so many more composites and units stay within the limits: 4,294,967,295
+    /// composites and 268,435,456 units.
     pub fn fits(&self, composites: u32, units: u64) -> bool
         requires { units < 2 ^ 32 }
         ensures { result ≡ fits self.now composites units }
@@ -65,7 +68,8 @@ impl Store {
             && self.units + units <= 268_435_456
     }
 
-    /// Makes a string of so many zero bytes.
+    /// Makes a string of so many zero bytes. A refusal, by a limit or out of memory, leaves the
+    /// store as it was.
     pub fn new_text(&mut self, len: u32) -> Result<Span, Grow>
         ensures ok { IfOk result (λ span. with_text self.old len ≡ Some (span, self.new)) }
         ensures limit { IsErrOf result Grow.LimitCheck ↔ (with_text self.old len ≡ None) }
@@ -78,7 +82,8 @@ impl Store {
         Ok(self.add(Composite::Text(bytes), len, u64::from(len))?)
     }
 
-    /// Makes a string of these bytes.
+    /// Makes a string of these bytes. A refusal, by a limit or out of memory, leaves the store
+    /// as it was.
     pub fn new_text_of(&mut self, bytes: &[u8]) -> Result<Span, Grow>
         ensures ok { IfOk result (λ span. with_text_of self.old bytes.now ≡ Some (span, self.new)) }
         ensures limit { IsErrOf result Grow.LimitCheck ↔ (with_text_of self.old bytes.now ≡ None) }
@@ -92,7 +97,8 @@ impl Store {
         Ok(self.add(Composite::Text(bytes), len, u64::from(len))?)
     }
 
-    /// Makes an array of so many nulls.
+    /// Makes an array of so many nulls. A refusal, by a limit or out of memory, leaves the
+    /// store as it was.
     pub fn new_array(&mut self, len: u32) -> Result<Span, Grow>
         ensures ok { IfOk result (λ span. with_array self.old len ≡ Some (span, self.new)) }
         ensures limit { IsErrOf result Grow.LimitCheck ↔ (with_array self.old len ≡ None) }
@@ -105,7 +111,8 @@ impl Store {
         Ok(self.add(Composite::Array(items), len, 16 * u64::from(len))?)
     }
 
-    /// Makes an array of these objects.
+    /// Makes an array of these objects. A refusal, by a limit or out of memory, leaves the
+    /// store as it was.
     pub fn new_array_of(&mut self, items: &[Obj]) -> Result<Span, Grow>
         ensures ok { IfOk result (λ span. with_array_of self.old items.now ≡ Some (span, self.new)) }
         ensures limit { IsErrOf result Grow.LimitCheck ↔ (with_array_of self.old items.now ≡ None) }
@@ -132,7 +139,8 @@ impl Store {
         Ok(Span { id, start: 0, len })
     }
 
-    /// Makes an empty dictionary.
+    /// Makes an empty dictionary, and answers its number. A refusal, by a limit or out of
+    /// memory, leaves the store as it was.
     pub fn new_dict(&mut self) -> Result<u32, Grow>
         ensures ok { IfOk result (λ dict. with_dict self.old ≡ Some (dict, self.new)) }
         ensures limit { IsErrOf result Grow.LimitCheck ↔ (with_dict self.old ≡ None) }
@@ -146,7 +154,8 @@ impl Store {
         Ok(whole.id)
     }
 
-    /// Gives a key of a dictionary a value. A key that is there keeps its place and its kind.
+    /// Gives a key of a dictionary a value. A key that is there keeps its place and its kind. A
+    /// refusal, by a limit or out of memory, leaves the store as it was.
     pub fn define(&mut self, dict: u32, key: Key, value: Obj) -> Result<(), Grow>
         ensures ok { OnOk result (defined self.old dict key value ≡ Some self.new) }
         ensures limit { IsErrOf result Grow.LimitCheck ↔ (defined self.old dict key value ≡ None) }
@@ -168,7 +177,8 @@ impl Store {
         Ok(())
     }
 
-    /// The element of an array, or the byte of a string, at a place.
+    /// The element of an array, or the byte of a string as an integer, at a place of the part,
+    /// from 0. Outside the composite it is null, or 0 for a string.
     pub fn get(&self, span: Span, at: u32) -> Obj
         ensures { result ≡ element self.now span at }
     {
@@ -228,7 +238,8 @@ impl Store {
         }
     }
 
-    /// Puts an object into an array, or a byte into a string.
+    /// Puts an object into an array, or an integer from 0 to 255 as a byte into a string, at a
+    /// place of the part, from 0. Outside the composite nothing changes.
     pub fn put(&mut self, span: Span, at: u32, value: Obj)
         ensures { self.new ≡ put_at self.old span at value }
     {
@@ -239,7 +250,8 @@ impl Store {
         }
     }
 
-    /// The key that an object is. A string is the name of its bytes, of which there are at most 127.
+    /// The key that an object is (PostScript Language Reference, third edition, 3.3.9
+    /// Dictionary Objects). A string is the name of its bytes, of which there are at most 127.
     pub fn key_of(&self, o: &Obj) -> Result<Key, KeyFault>
         ensures { result ≡ key_of self.now o.now }
     {
