@@ -14,8 +14,6 @@ mod drawn;
 mod gfx;
 mod held;
 mod line_style;
-#[cfg(test)]
-mod lined;
 mod lines;
 mod marks;
 mod matrices;
