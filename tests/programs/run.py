@@ -10,7 +10,8 @@ ANSWER = ' {0} {1} ifelse initgraphics setgray 0 0 1 1 rectfill showpage'
 ANSWERS = {b'P6\n1 1\n255\n\0\0\0': 'true', b'P6\n1 1\n255\n\xff\xff\xff': 'false'}
 LETTERS = {b'\xff\xff\xff': 'W', b'\0\0\0': 'B', b'\xff\0\0': 'R'}
 ERROR = re.compile(r'[a-z]+ in \S+')
-DOTS = re.compile(r'(?P<size>(\d+)x(\d+))(?: at (?P<res>\d+))?(?: > (?P<page>\d+x\d+))?: (?P<rows>[WBR]+(?: [WBR]+)*)')
+DOTS = re.compile(r'(?P<size>\d+x\d+)(?: at (?P<res>\d+))?(?: > (?P<page>\d+x\d+))?'
+                  r': (?P<rows>[WBR]+(?: [WBR]+)*)')
 
 
 class Malformed(Exception):
@@ -23,7 +24,8 @@ def run(program, words):
         file.write(program.encode())
         file.flush()
         try:
-            done = subprocess.run([sys.argv[1], *words, file.name], stdin=subprocess.DEVNULL, capture_output=True, timeout=120)
+            done = subprocess.run([sys.argv[1], *words, file.name], stdin=subprocess.DEVNULL,
+                                  capture_output=True, timeout=120)
         except subprocess.TimeoutExpired:
             return 'no end in 120 seconds'
     said = done.stderr.decode(errors='replace')
@@ -37,7 +39,7 @@ def run(program, words):
 
 def dots(page):
     """The size of a page and its rows, 'WxH: ROW ROW ..'; ? is any other colour."""
-    found = re.match(rb'P6\n(\d+) (\d+)\n255\n', page)
+    found = re.match(rb'P6\n([1-9]\d*) ([1-9]\d*)\n255\n', page)
     if not found:
         return f'no page in {len(page)} bytes'
     width, height = int(found[1]), int(found[2])
@@ -46,27 +48,39 @@ def dots(page):
         return f'{len(body)} bytes for {width}x{height} dots'
     if len(body) > 3 * 1024:
         return f'a page of {width}x{height} dots'
-    letters = [LETTERS.get(body[at:at + 3], '?') for at in range(0, len(body), 3)]
-    return f'{width}x{height}: ' + ' '.join(''.join(letters[row:row + width]) for row in range(0, len(letters), width))
+    letters = ''.join(LETTERS.get(body[at:at + 3], '?') for at in range(0, len(body), 3))
+    rows = [letters[at:at + width] for at in range(0, len(letters), width)]
+    return f'{width}x{height}: ' + ' '.join(rows)
+
+
+def shown(seen, pages):
+    """The name of a page where one of these came out, else its dots, or what was said."""
+    if isinstance(seen, bytes):
+        return pages.get(seen) or dots(seen)
+    return seen
+
+
+def picture(program, outcome):
+    """The page that a program paints, and the one that it has to paint."""
+    rows = outcome['rows'].split()
+    wanted = f'{len(rows[0])}x{len(rows)}'
+    if len(set(map(len, rows))) != 1 or wanted != (outcome['page'] or wanted):
+        raise Malformed('the rows are not those of the page')
+    if not outcome['page'] and not outcome['res'] and wanted != outcome['size']:
+        raise Malformed('the rows are not those of the size')
+    words = ['--size', outcome['size']] + (['--res', outcome['res']] if outcome['res'] else [])
+    return shown(run(program + ' showpage', words), {}), f'{wanted}: ' + ' '.join(rows)
 
 
 def seen_and_wanted(program, outcome):
     """What running a program shows, and what it has to show, in the same words."""
-    picture = DOTS.fullmatch(outcome)
-    if picture:
-        rows = picture['rows'].split()
-        page = picture['page'] or f'{len(rows[0])}x{len(rows)}'
-        if page != f'{len(rows[0])}x{len(rows)}' or len(set(map(len, rows))) != 1 \
-                or not (picture['res'] or picture['page'] or page == picture['size']):
-            raise Malformed('the rows are not those of the page')
-        seen = run(program + ' showpage', ['--size', picture['size']] + (['--res', picture['res']] if picture['res'] else []))
-        return dots(seen) if isinstance(seen, bytes) else seen, f'{page}: ' + ' '.join(rows)
+    dotted = DOTS.fullmatch(outcome)
+    if dotted:
+        return picture(program, dotted)
     if outcome == 'ends':
-        seen = run(program, ['--size', '1x1'])
-        return 'ends' if seen == b'' else dots(seen) if isinstance(seen, bytes) else seen, outcome
-    if outcome in ('true', 'false') or ERROR.fullmatch(outcome):
-        seen = run(program + ANSWER, ['--size', '1x1'])
-        return ANSWERS.get(seen, 'another page') if isinstance(seen, bytes) else seen, outcome
+        return shown(run(program, ['--size', '1x1']), {b'': 'ends'}), outcome
+    if outcome in ANSWERS.values() or ERROR.fullmatch(outcome):
+        return shown(run(program + ANSWER, ['--size', '1x1']), ANSWERS), outcome
     raise Malformed('no such outcome')
 
 
@@ -88,7 +102,8 @@ def fault(line, names):
 
 def table(path):
     """The faults of a table, one for each of its lines; nothing where a line holds."""
-    lines = [line for line in path.read_text().splitlines() if line.strip() and not line.startswith('#')]
+    lines = path.read_text().splitlines()
+    lines = [line for line in lines if line.strip() and not line.startswith('#')]
     names = set()
     faults = [(line, fault(line, names)) for line in lines] or [('', 'the table has no line')]
     for line, why in faults:
@@ -97,10 +112,15 @@ def table(path):
     return [why for _, why in faults]
 
 
-found = [why for path in sorted(pathlib.Path(__file__).parent.glob('*.txt')) for why in table(path)]
-failed = sum(why is not None for why in found)
-if not found:
-    print('failed: there are no tables')
-    failed = 1
-print(f'{len(found) - failed if found else 0} passed, {failed} failed')
-sys.exit(failed != 0)
+def main():
+    paths = sorted(pathlib.Path(__file__).parent.glob('*.txt'))
+    found = [why for path in paths for why in table(path)]
+    if not found:
+        print('failed: there are no tables')
+        found = ['no tables']
+    failed = sum(why is not None for why in found)
+    print(f'{len(found) - failed} passed, {failed} failed')
+    return failed != 0
+
+
+sys.exit(main())
