@@ -6,8 +6,6 @@
 
 mod body;
 mod errors;
-#[cfg(test)]
-mod graphics;
 mod machine;
 mod opening;
 mod reading;
