@@ -15,7 +15,7 @@ use ps_store::{Key, Obj, OpFault, Stack, Store};
 
 /// The size of a page in dots.
 #[derive(Clone, Copy, Debug, PartialEq, Eq)]
-pub struct PageDots {
+pub(crate) struct PageDots {
     pub width: u32,
     pub height: u32,
 }

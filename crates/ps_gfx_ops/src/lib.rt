@@ -14,5 +14,4 @@ mod rectangles;
 mod rows;
 mod states;
 
-pub use devices::PageDots;
 pub use rows::run_gfx;
