@@ -6,7 +6,8 @@ ghost use Rattle.ps_store.specs.Turning.{IsSource, IsSettled, AreClosed, ArePart
 use crate::obj::Obj;
 use crate::stack::MAX_OPERANDS;
 
-/// Turns the objects round by `k` places: the one at place `i + k`, counted round, goes to place `i`.
+/// Turns at most 500 objects round by `k` places: the one at place `i + k`, counted round, goes to
+/// place `i`.
 ///
 /// Each object is moved once, but that the first of each cycle of places waits aside while the
 /// others of its cycle move.
@@ -25,6 +26,8 @@ pub(crate) fn turn(items: &mut [Obj], k: usize)
 }
 
 /// Moves the objects of the cycle of places in which `start` is, unless that was done before.
+///
+/// A settled place holds its new object. What was settled stays so.
 fn settle_cycle(items: &mut [Obj], settled: &mut [bool], k: usize, start: usize)
     requires part { k ≤ length items.old }
     requires within { start < length items.old }
@@ -34,7 +37,9 @@ fn settle_cycle(items: &mut [Obj], settled: &mut [bool], k: usize, start: usize)
     ensures closed { AreClosed (length items.old) k settled.new }
     ensures start { IsSettled settled.new start }
     ensures kept { (i : ℕ) → IsSettled settled.old i → IsSettled settled.new i }
-    ensures turned { (before : List Obj) → ArePartlyTurned (length items.old) k before settled.old items.old → ArePartlyTurned (length items.old) k before settled.new items.new }
+    ensures turned { (before : List Obj) →
+        ArePartlyTurned (length items.old) k before settled.old items.old →
+        ArePartlyTurned (length items.old) k before settled.new items.new }
 {
     if settled[start] {
         return;
