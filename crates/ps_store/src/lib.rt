@@ -17,6 +17,7 @@ mod obj;
 mod oper;
 mod stack;
 mod store;
+mod turning;
 
 pub use composite::{Bytes, Elements};
 pub use dicts::{Dicts, SYSTEMDICT, USERDICT};

@@ -6,6 +6,7 @@ ghost use Rattle.arrayvec.specs.ArrayVec.{array_vec_len};
 ghost use Rattle.ps_store.specs.Stack.{rolled, is_mark};
 
 use crate::obj::Obj;
+use crate::turning::turn;
 use arrayvec::ArrayVec;
 use press_fault::{StackOverflow, StackUnderflow};
 use std::marker::Model;
@@ -256,7 +257,7 @@ impl Stack {
     {
         let from = self.items.len() - n;
         let (_, part) = self.items.as_mut_slice().split_at_mut(from);
-        part.rotate_left(n - j);
+        turn(part, n - j);
     }
 }
 

@@ -1,0 +1,10 @@
+use Rattle.std.proofs.Common.{ℕ, ◌<◌, length}
+use Rattle.ps_store.specs.Turning.{IsSettled, AreClosed, ArePartlyTurned}
+use Rattle.ps_store.proofs.turning.turn.Given as goal
+
+-- the places before the start are settled
+abbrev pub invariant-loop-start : goal.invariant-loop-start
+invariant-loop-start l =
+    AreClosed (length l.initial.items) l.k l.settled
+    × ((i : ℕ) → i < l.start → IsSettled l.settled i)
+    × ArePartlyTurned (length l.initial.items) l.k l.initial.items l.settled l.items
