@@ -6,6 +6,7 @@ ghost use Rattle.ps_store.specs.Dicts.{find_key};
 ghost use Rattle.ps_store.specs.Operators.{name_of, flow_name_of};
 ghost use Rattle.ps_stack_ops.specs.Rows.{stack_row};
 ghost use Rattle.ps_data_ops.specs.Rows.{data_row};
+ghost use Rattle.ps_flow.specs.Levels.{told};
 ghost use Rattle.ps_flow.specs.Rows.{flow_row};
 ghost use Rattle.ps_gfx_ops.specs.Rows.{gfx_row};
 ghost use Rattle.ps_machine.specs.State.{State as Snapshot, opening};
@@ -85,15 +86,17 @@ impl Body {
                 self.execute(end, &o)
             }
             None => {
-                let next = self.flow.next_object();
-                self.go_on(end, &next)
+                let mut pushes = Pushes::Nothing;
+                let next = self.flow.next_object(&mut pushes);
+                self.go_on(end, next, &pushes)
             }
         }
     }
 
+    /// Does what comes next. What a turn pushes is `pushes`.
     #[tactic(auto, unfolding(crate::specs::Reading::go_on))]
-    fn go_on(&mut self, end: &mut End, next: &NextObj) -> Mem<Turn>
-        ensures { IfOk result (λ turn. go_on next.now self.old ≡ step_of turn self.new end.new) }
+    fn go_on(&mut self, end: &mut End, next: NextObj, pushes: &Pushes) -> Mem<Turn>
+        ensures { IfOk result (λ turn. go_on (told next pushes.now) self.old ≡ step_of turn self.new end.new) }
     {
         match next {
             NextObj::Run(place) => {
@@ -101,14 +104,14 @@ impl Body {
                     return Ok(timeout(end));
                 }
                 self.count += 1;
-                self.execute_at(end, *place)
+                self.execute_at(end, place)
             }
-            NextObj::Turn { op, pushes } => {
+            NextObj::Turn(op) => {
                 if self.count >= OBJECTS {
                     return Ok(timeout(end));
                 }
                 self.count += 1;
-                Ok(self.begin_turn(end, *op, pushes))
+                Ok(self.begin_turn(end, op, pushes))
             }
             NextObj::Passed => Ok(self.push(end, b"stopped", Obj::Bool(false))),
             NextObj::Empty => self.read(end),
