@@ -106,10 +106,11 @@ abbrev pub next_of : List Level → Next
 next_of [] = record { next = Empty; levels = [] }
 next_of (level ∷ below) = after (given_of level).gives (given_of level).level below (next_of below)
 
--- What comes next, by what a call answers and the pushes that it leaves
+-- what comes next, by what a call answers and the pushes that it leaves
 abbrev pub told : NextObj → Pushes → Upcoming
 told (Code.Run place) pushes = Run place
-told (Code.Turn op) pushes = Turn op pushes
+told (Code.Turn op) pushes = Turn op Nothing
+told (Code.TurnWith op) pushes = Turn op pushes
 told Code.Passed pushes = Passed
 told Code.Empty pushes = Empty
 

@@ -76,8 +76,7 @@ impl Flow {
         Ok(())
     }
 
-    /// What comes next. A level that has nothing left goes. What a turn pushes is left in `pushes`, which only
-    /// a turn says something of.
+    /// What comes next. A level that has nothing left goes. What a turn pushes is left in `pushes`.
     pub fn next_object(&mut self, pushes: &mut Pushes) -> NextObj
         ensures { next_of self.old ≡ record { next = told result pushes.new; levels = self.new } }
     {

@@ -1,5 +1,6 @@
 //! Levels of the execution stack.
 ghost use Rattle.std.specs.Prelude.{◌≡◌, ◌<◌};
+ghost use Rattle.ps_flow.specs.declared.pushes.Pushes.{Pushes as Pushed};
 ghost use Rattle.ps_flow.specs.Levels.{given_of, offered, for_turn, behind, nothing_of, is_stopped, is_loop};
 
 use crate::contents::{Objects, Pairs};
@@ -78,13 +79,16 @@ impl Level {
     }
 }
 
-/// What comes next. What a turn pushes stands beside it.
+/// What comes next.
 #[derive(Clone, Copy, Debug, PartialEq, Eq)]
 pub enum NextObj {
     /// The object at the first place of this part of a procedure is to be executed.
     Run(Span),
-    /// A loop of this operator begins a turn. What the turn pushes is pushed once it was counted.
+    /// A loop of this operator begins a turn that pushes nothing.
     Turn(FlowOp),
+    /// A loop of this operator begins a turn. What it pushes stands beside this, and is pushed once
+    /// the turn was counted.
+    TurnWith(FlowOp),
     /// A `stopped` has ended, and its level is gone: false is to be pushed.
     Passed,
     /// No level is open.
@@ -109,8 +113,8 @@ pub(crate) fn given(level: &mut Level, pushes: &mut Pushes) -> Offer
     match level {
         Level::Procedure(rest) => next_place(rest, Offer::Ends),
         Level::Stopped(rest) => next_place(rest, Offer::Passes),
-        Level::Loop { body, rest } => loop_given(*body, rest, pushes),
-        Level::Repeat { left, body, rest } => repeat_given(left, *body, rest, pushes),
+        Level::Loop { body, rest } => loop_given(*body, rest),
+        Level::Repeat { left, body, rest } => repeat_given(left, *body, rest),
         Level::For {
             next,
             limit,
@@ -122,19 +126,18 @@ pub(crate) fn given(level: &mut Level, pushes: &mut Pushes) -> Offer
     }
 }
 
-fn loop_given(body: Span, rest: &mut Span, pushes: &mut Pushes) -> Offer
-    ensures { given_of (Level.Loop body rest.old) ≡ record { gives = offered result pushes.new; level = Level.Loop body rest.new } }
+fn loop_given(body: Span, rest: &mut Span) -> Offer
+    ensures { (pushes : Pushed) → given_of (Level.Loop body rest.old) ≡ record { gives = offered result pushes; level = Level.Loop body rest.new } }
 {
     if rest.len == 0 {
         *rest = body;
-        *pushes = Pushes::Nothing;
-        return turn(FlowOp::Loop);
+        return Offer::Gives(NextObj::Turn(FlowOp::Loop));
     }
     next_place(rest, Offer::Ends)
 }
 
-fn repeat_given(left: &mut u32, body: Span, rest: &mut Span, pushes: &mut Pushes) -> Offer
-    ensures { given_of (Level.Repeat left.old body rest.old) ≡ record { gives = offered result pushes.new; level = Level.Repeat left.new body rest.new } }
+fn repeat_given(left: &mut u32, body: Span, rest: &mut Span) -> Offer
+    ensures { (pushes : Pushed) → given_of (Level.Repeat left.old body rest.old) ≡ record { gives = offered result pushes; level = Level.Repeat left.new body rest.new } }
 {
     if rest.len == 0 {
         if *left == 0 {
@@ -142,8 +145,7 @@ fn repeat_given(left: &mut u32, body: Span, rest: &mut Span, pushes: &mut Pushes
         }
         *left -= 1;
         *rest = body;
-        *pushes = Pushes::Nothing;
-        return turn(FlowOp::Repeat);
+        return Offer::Gives(NextObj::Turn(FlowOp::Repeat));
     }
     next_place(rest, Offer::Ends)
 }
@@ -163,7 +165,7 @@ fn for_given(
         };
         *rest = body;
         *pushes = Pushes::One(value);
-        return turn(FlowOp::For);
+        return Offer::Gives(NextObj::TurnWith(FlowOp::For));
     }
     next_place(rest, Offer::Ends)
 }
@@ -177,7 +179,7 @@ fn forall_given(left: &mut Objects, body: Span, rest: &mut Span, pushes: &mut Pu
         };
         *rest = body;
         *pushes = Pushes::One(o);
-        return turn(FlowOp::Forall);
+        return Offer::Gives(NextObj::TurnWith(FlowOp::Forall));
     }
     next_place(rest, Offer::Ends)
 }
@@ -191,7 +193,7 @@ fn entries_given(left: &mut Pairs, body: Span, rest: &mut Span, pushes: &mut Pus
         };
         *rest = body;
         *pushes = Pushes::Two(key, value);
-        return turn(FlowOp::Forall);
+        return Offer::Gives(NextObj::TurnWith(FlowOp::Forall));
     }
     next_place(rest, Offer::Ends)
 }
@@ -211,12 +213,6 @@ fn next_place(rest: &mut Span, over: Offer) -> Offer
         len: here.len - 1,
     };
     Offer::Gives(NextObj::Run(here))
-}
-
-fn turn(op: FlowOp) -> Offer
-    ensures { result ≡ Offer.Gives (NextObj.Turn op) }
-{
-    Offer::Gives(NextObj::Turn(op))
 }
 
 /// The value of the next turn of a `for`, if there is one.

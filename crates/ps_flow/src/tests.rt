@@ -199,7 +199,8 @@ impl Scene {
         match self.flow.next_object(&mut pushes) {
             NextObj::Empty => Ok((true, None)),
             NextObj::Passed => Ok((false, self.push(Obj::Bool(false))?)),
-            NextObj::Turn(_) => match pushes.onto(&mut self.stack) {
+            NextObj::Turn(_) => Ok((false, None)),
+            NextObj::TurnWith(_) => match pushes.onto(&mut self.stack) {
                 Ok(()) => Ok((false, None)),
                 Err(_) => Ok((false, Some(PsName::StackOverflow))),
             },
