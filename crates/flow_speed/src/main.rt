@@ -1,7 +1,7 @@
 //! Counts 100,000,000 turns of an empty loop on the execution stack.
 #![tactic(auto)]
 
-use ps_flow::{Flow, NextObj, run_flow};
+use ps_flow::{Flow, NextObj, Pushes, run_flow};
 use ps_store::{Dicts, FlowOp, Obj, Span, Stack, Store};
 use std::io;
 
@@ -21,8 +21,9 @@ fn opened(stack: &mut Stack, flow: &mut Flow, store: &mut Store, dicts: &Dicts) 
 /// How many of so many requests for the next object begin a turn.
 fn turns_of(flow: &mut Flow, requests: u32) -> u32 {
     let mut turns = 0u32;
+    let mut pushes = Pushes::Nothing;
     for _ in 0..requests {
-        if let NextObj::Turn { .. } = flow.next_object() {
+        if let NextObj::Turn(_) = flow.next_object(&mut pushes) {
             turns = turns.wrapping_add(1);
         }
     }

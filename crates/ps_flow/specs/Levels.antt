@@ -11,9 +11,9 @@ use Rattle.ps_flow.specs.declared.pushes.Pushes.TheVariants.{Nothing, One, Two}
 use Rattle.ps_flow.specs.declared.level.Level.{Level}
 use Rattle.ps_flow.specs.declared.level.Level.TheVariants.{Procedure, Stopped, Loop, Repeat, For, Forall, ForallEntries}
 use Rattle.ps_flow.specs.declared.level.NextObj.{NextObj}
-use Rattle.ps_flow.specs.declared.level.NextObj.TheVariants.{Run, Turn, Passed, Empty}
-use Rattle.ps_flow.specs.declared.level.Advance.{Advance}
-use Rattle.ps_flow.specs.declared.level.Advance.TheVariants.{Ends, Passes, Gives}
+use Rattle.ps_flow.specs.declared.level.NextObj.TheVariants as Code
+use Rattle.ps_flow.specs.declared.level.Offer.{Offer}
+use Rattle.ps_flow.specs.declared.level.Offer.TheVariants as Offered
 use Rattle.ps_flow.specs.Counting.{is_past, value_of, next_of_counter}
 
 -- a part without its first place
@@ -23,6 +23,20 @@ behind p = record { id = p.id; start = p.start + 1; len = p.len - 1 }
 -- no place of the same composite
 abbrev pub nothing_of : Part → Part
 nothing_of p = record { id = p.id; start = 0; len = 0 }
+
+-- what comes next: the object at the first place of a part of a procedure, a turn of a loop with what it pushes, the
+-- end of a stopped, which gives false, or nothing, as no level is open
+pub data Upcoming : Type 0 where
+  Run : Part → Upcoming
+  Turn : FlowOp → Pushes → Upcoming
+  Passed : Upcoming
+  Empty : Upcoming
+
+-- what a level gives: nothing, and it goes; nothing, and it goes as a stopped; or what comes next, and it stays
+pub data Advance : Type 0 where
+  Ends : Advance
+  Passes : Advance
+  Gives : Upcoming → Advance
 
 -- what a level gives when the next object is asked for, and the level then
 pub record Given : Type 0 where
@@ -79,7 +93,7 @@ given_of (ForallEntries left body rest) = running rest (ForallEntries left body)
 
 -- what comes next, and the levels then
 pub record Next : Type 0 where
-  pub next : NextObj
+  pub next : Upcoming
   pub levels : List Level
 
 abbrev pub after : Advance → Level → List Level → Next → Next
@@ -91,6 +105,20 @@ after (Gives next) level below further = record { next = next; levels = level �
 abbrev pub next_of : List Level → Next
 next_of [] = record { next = Empty; levels = [] }
 next_of (level ∷ below) = after (given_of level).gives (given_of level).level below (next_of below)
+
+-- what comes next, by what a call answers and the pushes that it leaves
+abbrev pub told : NextObj → Pushes → Upcoming
+told (Code.Run place) pushes = Run place
+told (Code.Turn op) pushes = Turn op Nothing
+told (Code.TurnWith op) pushes = Turn op pushes
+told Code.Passed pushes = Passed
+told Code.Empty pushes = Empty
+
+-- the same of what a level gives
+abbrev pub offered : Offer → Pushes → Advance
+offered Offered.Ends pushes = Ends
+offered Offered.Passes pushes = Passes
+offered (Offered.Gives next) pushes = Gives (told next pushes)
 
 abbrev pub is_stopped : Level → Bool
 is_stopped (Stopped rest) = true

@@ -1,8 +1,9 @@
 //! The execution stack.
 ghost use Rattle.std.specs.Prelude.{◌≡◌, ◌≤◌, ◌<◌, ◌∷◌, [], ◌↔◌, length, IsErr, OnOk, OnErr, OnSome, MatchOption, Some, None, true, false, take, reverse};
-ghost use Rattle.ps_flow.specs.Levels.{next_of, below_stopped, below_loop, Next};
+ghost use Rattle.ps_flow.specs.Levels.{next_of, told, below_stopped, below_loop, Next};
 
-use crate::level::{Advance, Level, NextObj, given};
+use crate::level::{Level, NextObj, Offer, given};
+use crate::pushes::Pushes;
 use arrayvec::ArrayVec;
 use press_fault::ExecStackOverflow;
 use ps_store::Span;
@@ -75,11 +76,11 @@ impl Flow {
         Ok(())
     }
 
-    /// What comes next. A level that has nothing left goes.
-    pub fn next_object(&mut self) -> NextObj
-        ensures { next_of self.old ≡ record { next = result; levels = self.new } }
+    /// What comes next. A level that has nothing left goes. What a turn pushes is left in `pushes`.
+    pub fn next_object(&mut self, pushes: &mut Pushes) -> NextObj
+        ensures { next_of self.old ≡ record { next = told result pushes.new; levels = self.new } }
     {
-        next_in(&mut self.items)
+        next_in(&mut self.items, pushes)
     }
 
     /// Cuts the levels back to the innermost `stopped`, which goes; false exactly where none is
@@ -114,18 +115,18 @@ impl Flow {
 }
 
 /// What comes next among the levels, outermost first.
-fn next_in(items: &mut ArrayVec<Level, MAX_LEVELS>) -> NextObj
-    ensures { next_of (reverse items.old.items) ≡ record { next = result; levels = reverse items.new.items } }
+fn next_in(items: &mut ArrayVec<Level, MAX_LEVELS>, pushes: &mut Pushes) -> NextObj
+    ensures { next_of (reverse items.old.items) ≡ record { next = told result pushes.new; levels = reverse items.new.items } }
 {
     while !items.is_empty() {
         let at = items.len() - 1;
-        match given(&mut items[at]) {
-            Advance::Ends => items.truncate(at),
-            Advance::Passes => {
+        match given(&mut items[at], pushes) {
+            Offer::Ends => items.truncate(at),
+            Offer::Passes => {
                 items.truncate(at);
                 return NextObj::Passed;
             }
-            Advance::Gives(next) => return next,
+            Offer::Gives(next) => return next,
         }
     }
     NextObj::Empty

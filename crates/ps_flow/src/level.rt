@@ -1,6 +1,7 @@
 //! Levels of the execution stack.
 ghost use Rattle.std.specs.Prelude.{◌≡◌, ◌<◌};
-ghost use Rattle.ps_flow.specs.Levels.{given_of, for_turn, behind, nothing_of, is_stopped, is_loop};
+ghost use Rattle.ps_flow.specs.declared.pushes.Pushes.{Pushes as Pushed};
+ghost use Rattle.ps_flow.specs.Levels.{given_of, offered, for_turn, behind, nothing_of, is_stopped, is_loop};
 
 use crate::contents::{Objects, Pairs};
 use crate::counter::Counter;
@@ -83,8 +84,11 @@ impl Level {
 pub enum NextObj {
     /// The object at the first place of this part of a procedure is to be executed.
     Run(Span),
-    /// A loop begins a turn. What the turn pushes is pushed once the turn was counted.
-    Turn { op: FlowOp, pushes: Pushes },
+    /// A loop of this operator begins a turn that pushes nothing.
+    Turn(FlowOp),
+    /// A loop of this operator begins a turn. What it pushes stands beside this, and is pushed once
+    /// the turn was counted.
+    TurnWith(FlowOp),
     /// A `stopped` has ended, and its level is gone: false is to be pushed.
     Passed,
     /// No level is open.
@@ -93,7 +97,7 @@ pub enum NextObj {
 
 /// What a level gives when the next object is asked for.
 #[derive(Clone, Copy, Debug, PartialEq, Eq)]
-pub enum Advance {
+pub enum Offer {
     /// Nothing: the level goes.
     Ends,
     /// Nothing, and it is a `stopped`: the level goes.
@@ -102,13 +106,13 @@ pub enum Advance {
     Gives(NextObj),
 }
 
-/// What a level gives.
-pub(crate) fn given(level: &mut Level) -> Advance
-    ensures { given_of level.old ≡ record { gives = result; level = level.new } }
+/// What a level gives. What a turn pushes is left in `pushes`.
+pub(crate) fn given(level: &mut Level, pushes: &mut Pushes) -> Offer
+    ensures { given_of level.old ≡ record { gives = offered result pushes.new; level = level.new } }
 {
     match level {
-        Level::Procedure(rest) => next_place(rest, Advance::Ends),
-        Level::Stopped(rest) => next_place(rest, Advance::Passes),
+        Level::Procedure(rest) => next_place(rest, Offer::Ends),
+        Level::Stopped(rest) => next_place(rest, Offer::Passes),
         Level::Loop { body, rest } => loop_given(*body, rest),
         Level::Repeat { left, body, rest } => repeat_given(left, *body, rest),
         Level::For {
@@ -116,79 +120,88 @@ pub(crate) fn given(level: &mut Level) -> Advance
             limit,
             body,
             rest,
-        } => for_given(next, *limit, *body, rest),
-        Level::Forall { left, body, rest } => forall_given(left, *body, rest),
-        Level::ForallEntries { left, body, rest } => entries_given(left, *body, rest),
+        } => for_given(next, *limit, *body, rest, pushes),
+        Level::Forall { left, body, rest } => forall_given(left, *body, rest, pushes),
+        Level::ForallEntries { left, body, rest } => entries_given(left, *body, rest, pushes),
     }
 }
 
-fn loop_given(body: Span, rest: &mut Span) -> Advance
-    ensures { given_of (Level.Loop body rest.old) ≡ record { gives = result; level = Level.Loop body rest.new } }
+fn loop_given(body: Span, rest: &mut Span) -> Offer
+    ensures { (pushes : Pushed) → given_of (Level.Loop body rest.old) ≡ record { gives = offered result pushes; level = Level.Loop body rest.new } }
 {
     if rest.len == 0 {
         *rest = body;
-        return turn(FlowOp::Loop, Pushes::Nothing);
+        return Offer::Gives(NextObj::Turn(FlowOp::Loop));
     }
-    next_place(rest, Advance::Ends)
+    next_place(rest, Offer::Ends)
 }
 
-fn repeat_given(left: &mut u32, body: Span, rest: &mut Span) -> Advance
-    ensures { given_of (Level.Repeat left.old body rest.old) ≡ record { gives = result; level = Level.Repeat left.new body rest.new } }
+fn repeat_given(left: &mut u32, body: Span, rest: &mut Span) -> Offer
+    ensures { (pushes : Pushed) → given_of (Level.Repeat left.old body rest.old) ≡ record { gives = offered result pushes; level = Level.Repeat left.new body rest.new } }
 {
     if rest.len == 0 {
         if *left == 0 {
-            return Advance::Ends;
+            return Offer::Ends;
         }
         *left -= 1;
         *rest = body;
-        return turn(FlowOp::Repeat, Pushes::Nothing);
+        return Offer::Gives(NextObj::Turn(FlowOp::Repeat));
     }
-    next_place(rest, Advance::Ends)
+    next_place(rest, Offer::Ends)
 }
 
-fn for_given(next: &mut Option<Counter>, limit: Fix, body: Span, rest: &mut Span) -> Advance
-    ensures { given_of (Level.For next.old limit body rest.old) ≡ record { gives = result; level = Level.For next.new limit body rest.new } }
+fn for_given(
+    next: &mut Option<Counter>,
+    limit: Fix,
+    body: Span,
+    rest: &mut Span,
+    pushes: &mut Pushes,
+) -> Offer
+    ensures { given_of (Level.For next.old limit body rest.old) ≡ record { gives = offered result pushes.new; level = Level.For next.new limit body rest.new } }
 {
     if rest.len == 0 {
         let Some(value) = next_value(next, limit) else {
-            return Advance::Ends;
+            return Offer::Ends;
         };
         *rest = body;
-        return turn(FlowOp::For, Pushes::One(value));
+        *pushes = Pushes::One(value);
+        return Offer::Gives(NextObj::TurnWith(FlowOp::For));
     }
-    next_place(rest, Advance::Ends)
+    next_place(rest, Offer::Ends)
 }
 
-fn forall_given(left: &mut Objects, body: Span, rest: &mut Span) -> Advance
-    ensures { given_of (Level.Forall left.old body rest.old) ≡ record { gives = result; level = Level.Forall left.new body rest.new } }
+fn forall_given(left: &mut Objects, body: Span, rest: &mut Span, pushes: &mut Pushes) -> Offer
+    ensures { given_of (Level.Forall left.old body rest.old) ≡ record { gives = offered result pushes.new; level = Level.Forall left.new body rest.new } }
 {
     if rest.len == 0 {
         let Some(o) = left.next() else {
-            return Advance::Ends;
+            return Offer::Ends;
         };
         *rest = body;
-        return turn(FlowOp::Forall, Pushes::One(o));
+        *pushes = Pushes::One(o);
+        return Offer::Gives(NextObj::TurnWith(FlowOp::Forall));
     }
-    next_place(rest, Advance::Ends)
+    next_place(rest, Offer::Ends)
 }
 
-fn entries_given(left: &mut Pairs, body: Span, rest: &mut Span) -> Advance
-    ensures { given_of (Level.ForallEntries left.old body rest.old) ≡ record { gives = result; level = Level.ForallEntries left.new body rest.new } }
+fn entries_given(left: &mut Pairs, body: Span, rest: &mut Span, pushes: &mut Pushes) -> Offer
+    ensures { given_of (Level.ForallEntries left.old body rest.old) ≡ record { gives = offered result pushes.new; level = Level.ForallEntries left.new body rest.new } }
 {
     if rest.len == 0 {
         let Some((key, value)) = left.next() else {
-            return Advance::Ends;
+            return Offer::Ends;
         };
         *rest = body;
-        return turn(FlowOp::Forall, Pushes::Two(key, value));
+        *pushes = Pushes::Two(key, value);
+        return Offer::Gives(NextObj::TurnWith(FlowOp::Forall));
     }
-    next_place(rest, Advance::Ends)
+    next_place(rest, Offer::Ends)
 }
 
 /// The next place of a procedure, or what comes where nothing is left of it.
-fn next_place(rest: &mut Span, over: Advance) -> Advance
+fn next_place(rest: &mut Span, over: Offer) -> Offer
     ensures none { rest.old.len ≡ 0 → (result ≡ over) × (rest.new ≡ rest.old) }
-    ensures some { 0 < rest.old.len → (result ≡ Advance.Gives (NextObj.Run rest.old)) × (rest.new ≡ behind rest.old) }
+    ensures some { 0 < rest.old.len → (result ≡ Offer.Gives (NextObj.Run rest.old)) × (rest.new ≡ behind rest.old) }
 {
     if rest.len == 0 {
         return over;
@@ -199,13 +212,7 @@ fn next_place(rest: &mut Span, over: Advance) -> Advance
         start: here.start + 1,
         len: here.len - 1,
     };
-    Advance::Gives(NextObj::Run(here))
-}
-
-fn turn(op: FlowOp, pushes: Pushes) -> Advance
-    ensures { result ≡ Advance.Gives (NextObj.Turn op pushes) }
-{
-    Advance::Gives(NextObj::Turn { op, pushes })
+    Offer::Gives(NextObj::Run(here))
 }
 
 /// The value of the next turn of a `for`, if there is one.

@@ -15,6 +15,6 @@ mod visits;
 pub use contents::{Objects, Pairs};
 pub use counter::Counter;
 pub use flow::{Flow, MAX_LEVELS};
-pub use level::{Advance, Level, NextObj};
+pub use level::{Level, NextObj, Offer};
 pub use pushes::Pushes;
 pub use rows::run_flow;

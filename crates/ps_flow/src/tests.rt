@@ -195,10 +195,12 @@ impl Scene {
 
     /// Does what comes next, true where nothing is left.
     fn go_on(&mut self) -> Result<(bool, Option<PsName>), Fail> {
-        match self.flow.next_object() {
+        let mut pushes = Pushes::Nothing;
+        match self.flow.next_object(&mut pushes) {
             NextObj::Empty => Ok((true, None)),
             NextObj::Passed => Ok((false, self.push(Obj::Bool(false))?)),
-            NextObj::Turn { pushes, .. } => match pushes.onto(&mut self.stack) {
+            NextObj::Turn(_) => Ok((false, None)),
+            NextObj::TurnWith(_) => match pushes.onto(&mut self.stack) {
                 Ok(()) => Ok((false, None)),
                 Err(_) => Ok((false, Some(PsName::StackOverflow))),
             },

@@ -9,11 +9,9 @@ use Rattle.ps_store.specs.Store.{element}
 use Rattle.ps_flow.specs.declared.pushes.Pushes.TheVariants.{Nothing}
 use Rattle.ps_flow.specs.declared.level.Level.{Level}
 use Rattle.ps_flow.specs.declared.level.Level.TheVariants.{Procedure, Stopped, Loop, Repeat, For, Forall, ForallEntries}
-use Rattle.ps_flow.specs.declared.level.NextObj.{NextObj}
-use Rattle.ps_flow.specs.declared.level.NextObj.TheVariants.{Run, Turn, Passed, Empty}
-use Rattle.ps_flow.specs.declared.level.Advance.{Advance}
-use Rattle.ps_flow.specs.declared.level.Advance.TheVariants.{Ends, Passes, Gives}
-use Rattle.ps_flow.specs.Levels.{Given, running, begins, ends, Value, for_turn, for_given, forall_given, entries_given, given_of, behind, Next, after, next_of}
+use Rattle.ps_flow.specs.Levels.Upcoming.{Run, Turn, Passed, Empty}
+use Rattle.ps_flow.specs.Levels.Advance.{Ends, Passes, Gives}
+use Rattle.ps_flow.specs.Levels.{Upcoming, Advance, Given, running, begins, ends, Value, for_turn, for_given, forall_given, entries_given, given_of, behind, Next, after, next_of}
 use Rattle.ps_machine.specs.State.{State}
 use Rattle.ps_machine.specs.Steps.{execute, turned}
 use Rattle.ps_machine.specs.Reading.{go_on, step_at, step}
@@ -58,13 +56,13 @@ gives_of (Forall left body rest) = gives_running rest (Forall left body) (forall
 gives_of (ForallEntries left body rest) = gives_running rest (ForallEntries left body) (entries_given left body rest) (gives_entries left body rest)
 
 -- the levels behind what comes next of n levels
-abbrev IsBehind : ℕ → NextObj → List Level → Type 0
+abbrev IsBehind : ℕ → Upcoming → List Level → Type 0
 IsBehind n (Run place) levels = length levels ≤ n
 IsBehind n (Turn op items) levels = length levels ≤ n
 IsBehind n Passed levels = length levels < n
 IsBehind n Empty levels = levels ≡ []
 
-behind_more : (n : ℕ) (next : NextObj) (levels : List Level) → IsBehind n next levels → IsBehind (suc n) next levels
+behind_more : (n : ℕ) (next : Upcoming) (levels : List Level) → IsBehind n next levels → IsBehind (suc n) next levels
 behind_more n (Run place) levels h = omega arith
 behind_more n (Turn op items) levels h = omega arith
 behind_more n Passed levels h = omega arith
@@ -82,7 +80,7 @@ behind_next : (levels : List Level) → IsBehind (length levels) (next_of levels
 behind_next [] = refl
 behind_next (level ∷ below) = behind_after (given_of level).gives (given_of level).level below (next_of below) (gives_of level) (behind_next below)
 
-lowers_next : (n : ℕ) (s : State) (next : NextObj) (levels : List Level) → Limits s → s.at_once ≡ None → budget s + length s.levels ≤ n → IsBehind (length s.levels) next levels → Lowers n (go_on next (record s { levels = levels }))
+lowers_next : (n : ℕ) (s : State) (next : Upcoming) (levels : List Level) → Limits s → s.at_once ≡ None → budget s + length s.levels ≤ n → IsBehind (length s.levels) next levels → Lowers n (go_on next (record s { levels = levels }))
 unfolding go_on
 lowers_next n s (Run place) levels h none room f = lowers_counted n (record s { levels = levels }) (λ t. execute (element t.store place 0) t)
     ((h.0, omega arith, h.2, h.3), none, omega arith) (λ t r more. lowers_execute n (element t.store place 0) t r)

@@ -9,11 +9,9 @@ use Rattle.ps_store.specs.Store.{element}
 use Rattle.ps_flow.specs.declared.pushes.Pushes.TheVariants.{Nothing}
 use Rattle.ps_flow.specs.declared.level.Level.{Level}
 use Rattle.ps_flow.specs.declared.level.Level.TheVariants.{Procedure, Stopped, Loop, Repeat, For, Forall, ForallEntries}
-use Rattle.ps_flow.specs.declared.level.NextObj.{NextObj}
-use Rattle.ps_flow.specs.declared.level.NextObj.TheVariants.{Run, Turn, Passed, Empty}
-use Rattle.ps_flow.specs.declared.level.Advance.{Advance}
-use Rattle.ps_flow.specs.declared.level.Advance.TheVariants.{Ends, Passes, Gives}
-use Rattle.ps_flow.specs.Levels.{Given, running, begins, ends, Value, for_turn, for_given, forall_given, entries_given, given_of, behind, Next, after, next_of}
+use Rattle.ps_flow.specs.Levels.Upcoming.{Run, Turn, Passed, Empty}
+use Rattle.ps_flow.specs.Levels.Advance.{Ends, Passes, Gives}
+use Rattle.ps_flow.specs.Levels.{Upcoming, Advance, Given, running, begins, ends, Value, for_turn, for_given, forall_given, entries_given, given_of, behind, Next, after, next_of}
 use Rattle.ps_machine.specs.State.{State}
 use Rattle.ps_machine.specs.Steps.{execute, turned}
 use Rattle.ps_machine.specs.Reading.{go_on, step_at, step}
@@ -36,7 +34,7 @@ use Rattle.ps_laws.proofs.Each.{each_map, is_element}
 use Rattle.ps_laws.proofs.StoredSteps.{Stored, Keeps, PushesOf, keeps_pushes, keeps_counted, keeps_execute, keeps_turned}
 use Rattle.ps_laws.proofs.StoredTokens.{keeps_read}
 
-abbrev NextOf : ℕ → NextObj → Type 0
+abbrev NextOf : ℕ → Upcoming → Type 0
 NextOf m (Run place) = Unit {0}
 NextOf m (Turn op items) = PushesOf m items
 NextOf m Passed = Unit {0}
@@ -96,7 +94,7 @@ of_next : (m : ℕ) (levels : List Level) → Each (IsLevelOf m) levels → Behi
 of_next m [] h = (tt, tt)
 of_next m (level ∷ below) h = let g = of_level m level h.0 in of_after m (given_of level).gives (given_of level).level below (next_of below) g.0 g.1 h.1 (of_next m below h.1)
 
-keeps_go : (next : NextObj) (s : State) → NextOf (length s.store.made) next → Stored s → Keeps (go_on next s)
+keeps_go : (next : Upcoming) (s : State) → NextOf (length s.store.made) next → Stored s → Keeps (go_on next s)
 unfolding go_on
 keeps_go (Run place) s f h = keeps_counted s (λ t. execute (element t.store place 0) t) h (λ t k e. keeps_execute (element t.store place 0) t (is_element t.store place 0 k.0) k)
 keeps_go (Turn op items) s f h = keeps_counted s (turned op items) h (λ t k e. keeps_turned op items t (subst (λ (w : Kept). PushesOf (length w.made) items) (sym e) f) k)

@@ -12,9 +12,8 @@ use Rattle.ps_store.specs.declared.obj.Span.{Span}
 use Rattle.ps_store.specs.declared.key.Key.TheVariants.{Named}
 use Rattle.ps_store.specs.Store.{Kept, element, with_text_of, with_array_of}
 use Rattle.ps_store.specs.Dicts.{find_key}
-use Rattle.ps_flow.specs.declared.level.NextObj.{NextObj}
-use Rattle.ps_flow.specs.declared.level.NextObj.TheVariants.{Run, Turn, Passed, Empty}
-use Rattle.ps_flow.specs.Levels.{Next, next_of}
+use Rattle.ps_flow.specs.Levels.{Upcoming, Next, next_of}
+use Rattle.ps_flow.specs.Levels.Upcoming.{Run, Turn, Passed, Empty}
 use Rattle.ps_machine.specs.declared.turn.End.TheVariants.{Done}
 use Rattle.ps_machine.specs.State.{State}
 use Rattle.ps_machine.specs.Nested.{with_innermost}
@@ -72,7 +71,7 @@ unfoldable pub read : State → Step
 read s = after_scan (scanned s.text.depth s.text.rest) s
 
 -- what comes next of the levels; where none is open, of the text
-unfoldable pub go_on : NextObj → State → Step
+unfoldable pub go_on : Upcoming → State → Step
 go_on (Run place) s = counted s (λ t. execute (element t.store place 0) t)
 go_on (Turn op items) s = counted s (turned op items)
 go_on Passed s = pushes (codes "stopped") (Truth false) s

@@ -1,11 +1,13 @@
 //! The state of the interpreter, and one step of it.
-ghost use Rattle.std.specs.Prelude.{◌≡◌, ◌≤◌, Some, None, IfOk, length, codes, true};
+ghost use Rattle.std.specs.Prelude.{◌≡◌, ◌≤◌, Some, None, IfOk, IsSome, length, codes, true, false};
 ghost use Rattle.ps_store.specs.Store.{element};
+ghost use Rattle.ps_store.specs.declared.obj.Obj.TheVariants.{Bool as Truth};
 ghost use Rattle.ps_store.specs.declared.key.Key.TheVariants.{Named};
 ghost use Rattle.ps_store.specs.Dicts.{find_key};
 ghost use Rattle.ps_store.specs.Operators.{name_of, flow_name_of};
 ghost use Rattle.ps_stack_ops.specs.Rows.{stack_row};
 ghost use Rattle.ps_data_ops.specs.Rows.{data_row};
+ghost use Rattle.ps_flow.specs.Levels.{told};
 ghost use Rattle.ps_flow.specs.Rows.{flow_row};
 ghost use Rattle.ps_gfx_ops.specs.Rows.{gfx_row};
 ghost use Rattle.ps_machine.specs.State.{State as Snapshot, opening};
@@ -22,6 +24,7 @@ use crate::unclosed::Unclosed;
 use gfx_state::Gfx;
 use page_model::Page;
 use press_fault::{Mem, Name, NoMemory, PsName};
+use press_nums::Whole;
 use ps_data_ops::run_data;
 use ps_flow::{Flow, Level, NextObj, Pushes, run_flow};
 use ps_gfx_ops::run_gfx;
@@ -73,9 +76,26 @@ impl Model for Body {
 }
 
 impl Body {
-    /// One step. Where it ends the program, `end` says how.
+    /// One step. Where it ends the program, `end` says how. In `pushes` stands what a turn of a loop pushes.
+    ///
+    /// A function's values of 100 bytes and more are made anew at each call, so what the common steps
+    /// don't need stands in functions of its own, which aren't inlined.
     #[tactic(auto, unfolding(crate::specs::Reading::step))]
-    pub(crate) fn step(&mut self, end: &mut End) -> Mem<Turn>
+    pub(crate) fn step(&mut self, end: &mut End, pushes: &mut Pushes) -> Mem<Turn>
+        ensures { IfOk result (λ turn. step self.old ≡ step_of turn self.new end.new) }
+    {
+        if self.at_once.is_some() {
+            return self.execute_waiting(end);
+        }
+        let next = self.flow.next_object(pushes);
+        self.go_on(end, next, pushes)
+    }
+
+    /// Executes the object that is to be executed at once.
+    #[inline(never)]
+    #[tactic(auto, unfolding(crate::specs::Reading::step))]
+    fn execute_waiting(&mut self, end: &mut End) -> Mem<Turn>
+        requires { IsSome self.old.at_once }
         ensures { IfOk result (λ turn. step self.old ≡ step_of turn self.new end.new) }
     {
         match &self.at_once {
@@ -84,16 +104,14 @@ impl Body {
                 self.at_once = None;
                 self.execute(end, &o)
             }
-            None => {
-                let next = self.flow.next_object();
-                self.go_on(end, &next)
-            }
+            None => unreachable!(),
         }
     }
 
+    /// Does what comes next. What a turn pushes is `pushes`.
     #[tactic(auto, unfolding(crate::specs::Reading::go_on))]
-    fn go_on(&mut self, end: &mut End, next: &NextObj) -> Mem<Turn>
-        ensures { IfOk result (λ turn. go_on next.now self.old ≡ step_of turn self.new end.new) }
+    fn go_on(&mut self, end: &mut End, next: NextObj, pushes: &Pushes) -> Mem<Turn>
+        ensures { IfOk result (λ turn. go_on (told next pushes.now) self.old ≡ step_of turn self.new end.new) }
     {
         match next {
             NextObj::Run(place) => {
@@ -101,21 +119,37 @@ impl Body {
                     return Ok(timeout(end));
                 }
                 self.count += 1;
-                self.execute_at(end, *place)
+                self.execute_at(end, place)
             }
-            NextObj::Turn { op, pushes } => {
+            NextObj::Turn(op) => {
                 if self.count >= OBJECTS {
                     return Ok(timeout(end));
                 }
                 self.count += 1;
-                Ok(self.begin_turn(end, *op, pushes))
+                Ok(self.begin_empty_turn(end, op))
             }
-            NextObj::Passed => Ok(self.push(end, b"stopped", Obj::Bool(false))),
+            NextObj::TurnWith(op) => {
+                if self.count >= OBJECTS {
+                    return Ok(timeout(end));
+                }
+                self.count += 1;
+                Ok(self.begin_turn(end, op, pushes))
+            }
+            NextObj::Passed => Ok(self.pass(end)),
             NextObj::Empty => self.read(end),
         }
     }
 
+    /// A `stopped` that has ended gives false.
+    #[inline(never)]
+    fn pass(&mut self, end: &mut End) -> Turn
+        ensures { pushes (codes "stopped") (Truth false) self.old ≡ step_of result self.new end.new }
+    {
+        self.push(end, b"stopped", Obj::Bool(false))
+    }
+
     /// Executes an object that isn't counted.
+    #[inline(never)]
     #[tactic(auto, unfolding(crate::specs::Steps::execute))]
     pub(crate) fn execute(&mut self, end: &mut End, o: &Obj) -> Mem<Turn>
         ensures { IfOk result (λ turn. execute o.now self.old ≡ step_of turn self.new end.new) }
@@ -142,16 +176,23 @@ impl Body {
                     let op = *op;
                     self.operate_named(end, place, op)
                 }
-                found => {
-                    let (name, found) = (*name, found.copied());
-                    self.execute_value(end, &name, found)
-                }
+                _ => self.execute_copy(end, place),
             },
-            _ => {
-                let o = self.store.get(place, 0);
-                self.execute(end, &o)
+            Some(Obj::Int(n)) => {
+                let n = *n;
+                Ok(self.push_int(end, n))
             }
+            _ => self.execute_copy(end, place),
         }
+    }
+
+    /// Executes a copy of what stands at a place of the store.
+    #[inline(never)]
+    fn execute_copy(&mut self, end: &mut End, place: Span) -> Mem<Turn>
+        ensures { IfOk result (λ turn. execute (element self.old.store place 0) self.old ≡ step_of turn self.new end.new) }
+    {
+        let o = self.store.get(place, 0);
+        self.execute(end, &o)
     }
 
     /// Does the operator that a name at a place of the store leads to.
@@ -160,6 +201,26 @@ impl Body {
         ensures { IfOk result (λ turn. execute (element self.old.store place 0) self.old ≡ step_of turn self.new end.new) }
     {
         self.operate(end, op)
+    }
+
+    /// Pushes an integer.
+    #[inline(never)]
+    fn push_int(&mut self, end: &mut End, n: Whole) -> Turn
+        ensures { pushes (codes "push") (Obj.Int n) self.old ≡ step_of result self.new end.new }
+    {
+        match self.stack.push(Obj::Int(n)) {
+            Ok(()) => Turn::Went,
+            Err(_) => self.overflow(end),
+        }
+    }
+
+    /// There is no room for an object that is pushed.
+    #[cold]
+    #[inline(never)]
+    fn overflow(&mut self, end: &mut End) -> Turn
+        ensures { failed PsName.StackOverflow (codes "push") self.old ≡ step_of result self.new end.new }
+    {
+        self.fail(end, PsName::StackOverflow, named(b"push"))
     }
 
     fn execute_name(&mut self, end: &mut End, name: &Name) -> Mem<Turn>
@@ -220,17 +281,19 @@ impl Body {
         }
     }
 
+    #[inline(never)]
     fn operate_stack(&mut self, end: &mut End, op: StackOp) -> Mem<Turn>
         ensures { IfOk result (λ turn.
             after_stack (stack_row op self.old.operands self.old.store) (name_of (Oper.Stack op)) self.old ≡ step_of turn self.new end.new) }
     {
         match run_stack(op, &mut self.stack, &mut self.store) {
             Ok(()) => Ok(Turn::Went),
-            Err(OpFault::Ps(name)) => Ok(self.fail(end, name, command_of(Oper::Stack(op)))),
+            Err(OpFault::Ps(name)) => Ok(self.refuse_op(end, name, Oper::Stack(op))),
             Err(OpFault::NoMemory) => Err(NoMemory),
         }
     }
 
+    #[inline(never)]
     fn operate_data(&mut self, end: &mut End, op: DataOp) -> Mem<Turn>
         ensures { IfOk result (λ turn.
             after_data (data_row op (work_of self.old)) (name_of (Oper.Data op)) self.old ≡ step_of turn self.new end.new) }
@@ -243,11 +306,12 @@ impl Body {
             &mut self.text,
         ) {
             Ok(()) => Ok(Turn::Went),
-            Err(OpFault::Ps(name)) => Ok(self.fail(end, name, command_of(Oper::Data(op)))),
+            Err(OpFault::Ps(name)) => Ok(self.refuse_op(end, name, Oper::Data(op))),
             Err(OpFault::NoMemory) => Err(NoMemory),
         }
     }
 
+    #[inline(never)]
     fn operate_gfx(&mut self, end: &mut End, op: GfxOp) -> Mem<Turn>
         ensures { IfOk result (λ turn.
             after_gfx (gfx_row op self.old.operands self.old.store self.old.graphics) (name_of (Oper.Gfx op)) self.old ≡ step_of turn self.new end.new) }
@@ -260,11 +324,12 @@ impl Body {
             &mut self.gfx,
         ) {
             Ok(()) => Ok(Turn::Went),
-            Err(OpFault::Ps(name)) => Ok(self.fail(end, name, command_of(Oper::Gfx(op)))),
+            Err(OpFault::Ps(name)) => Ok(self.refuse_op(end, name, Oper::Gfx(op))),
             Err(OpFault::NoMemory) => Err(NoMemory),
         }
     }
 
+    #[inline(never)]
     fn operate_flow(&mut self, end: &mut End, op: FlowOp) -> Mem<Turn>
         ensures { IfOk result (λ turn. operate_flow op self.old ≡ step_of turn self.new end.new) }
     {
@@ -290,7 +355,7 @@ impl Body {
                 self.at_once = at_once;
                 Ok(Turn::Went)
             }
-            Err(OpFault::Ps(name)) => Ok(self.fail(end, name, command_of(Oper::Flow(op)))),
+            Err(OpFault::Ps(name)) => Ok(self.refuse_op(end, name, Oper::Flow(op))),
             Err(OpFault::NoMemory) => Err(NoMemory),
         }
     }
@@ -307,22 +372,36 @@ impl Body {
             &self.dicts,
         ) {
             Ok(_) => Ok(self.push(end, b"stopped", Obj::Bool(true))),
-            Err(OpFault::Ps(name)) => Ok(self.fail(
-                end,
-                name,
-                command_of(Oper::Flow(FlowOp::Stop)),
-            )),
+            Err(OpFault::Ps(name)) => Ok(self.refuse_op(end, name, Oper::Flow(FlowOp::Stop))),
             Err(OpFault::NoMemory) => Err(NoMemory),
         }
     }
 
+    /// An operator refuses its operands.
+    #[cold]
+    #[inline(never)]
+    fn refuse_op(&mut self, end: &mut End, name: PsName, op: Oper) -> Turn
+        ensures { failed name (name_of op) self.old ≡ step_of result self.new end.new }
+    {
+        self.fail(end, name, command_of(op))
+    }
+
+    /// A turn of a loop that pushes nothing: there is always room.
+    fn begin_empty_turn(&mut self, _end: &mut End, op: FlowOp) -> Turn
+        ensures { turned op Pushes.Nothing self.old ≡ step_of result self.new _end.new }
+    {
+        let _operands = self.stack.len();
+        Turn::Went
+    }
+
     /// What a turn of a loop pushes.
+    #[inline(never)]
     fn begin_turn(&mut self, end: &mut End, op: FlowOp, pushes: &Pushes) -> Turn
         ensures { turned op pushes.now self.old ≡ step_of result self.new end.new }
     {
         match pushes.onto(&mut self.stack) {
             Ok(()) => Turn::Went,
-            Err(_) => self.fail(end, PsName::StackOverflow, command_of(Oper::Flow(op))),
+            Err(_) => self.refuse_op(end, PsName::StackOverflow, Oper::Flow(op)),
         }
     }
 
@@ -338,6 +417,8 @@ impl Body {
     }
 
     /// An error: it goes to the innermost `stopped`, or ends the program.
+    #[cold]
+    #[inline(never)]
     pub(crate) fn fail(&mut self, end: &mut End, name: PsName, command: Name) -> Turn
         ensures { failed name command self.old ≡ step_of result self.new end.new }
     {

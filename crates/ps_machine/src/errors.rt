@@ -39,6 +39,8 @@ pub(crate) fn timed_out() -> End
 }
 
 /// Ends the program by the timeout.
+#[cold]
+#[inline(never)]
 pub(crate) fn timeout(end: &mut End) -> Turn
     ensures turn { result ≡ Turn.Ended }
     ensures end { end.new ≡ End.Ps PsName.Timeout (codes "run") }

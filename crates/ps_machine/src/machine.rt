@@ -8,6 +8,7 @@ use crate::opening::opening_of;
 use crate::setup::Setup;
 use crate::turn::{End, Event, Turn};
 use press_fault::{Mem, NoMemory};
+use ps_flow::Pushes;
 use std::alloc::Global;
 use std::marker::Model;
 
@@ -92,9 +93,10 @@ fn run_on(body: &mut Body, left: &mut u64) -> Mem<Event>
     ensures plain { IfOk result GoesByNoSource }
 {
     let mut end = End::Done;
+    let mut pushes = Pushes::Nothing;
     while *left > 0 {
         *left -= 1;
-        match body.step(&mut end)? {
+        match body.step(&mut end, &mut pushes)? {
             Turn::Went => {}
             Turn::Shown => return Ok(Event::Page(body.take_page())),
             Turn::Ended => return Ok(Event::End(end)),

@@ -18,6 +18,7 @@ use ps_store::{Obj, Span};
 
 impl Body {
     /// Reads the next token of the text.
+    #[inline(never)]
     #[tactic(auto, unfolding(crate::specs::Reading::read))]
     pub(crate) fn read(&mut self, end: &mut End) -> Mem<Turn>
         ensures { IfOk result (λ turn. read self.old ≡ step_of turn self.new end.new) }

@@ -5,7 +5,7 @@ ghost use Rattle.ps_stack_ops.specs.Rows.{pop_row, exch_row, dup_row, count_row,
 
 use press_fault::{PsName, StackOverflow};
 use press_nums::Whole;
-use ps_store::{Obj, OpFault, Stack};
+use ps_store::{MAX_OPERANDS, Obj, OpFault, Stack};
 
 /// Puts an object on top.
 pub(crate) fn push(stack: &mut Stack, o: Obj) -> Result<(), OpFault>
@@ -20,10 +20,11 @@ pub(crate) fn push(stack: &mut Stack, o: Obj) -> Result<(), OpFault>
 pub(crate) fn pop(stack: &mut Stack) -> Result<(), OpFault>
     ensures { Answers (pop_row stack.old) result stack.old stack.new }
 {
-    match stack.pop() {
-        Ok(_) => Ok(()),
-        Err(_) => Err(OpFault::Ps(PsName::StackUnderflow)),
+    if stack.len() == 0 {
+        return Err(OpFault::Ps(PsName::StackUnderflow));
     }
+    stack.drop_top(1);
+    Ok(())
 }
 
 pub(crate) fn exch(stack: &mut Stack) -> Result<(), OpFault>
@@ -40,11 +41,14 @@ pub(crate) fn exch(stack: &mut Stack) -> Result<(), OpFault>
 pub(crate) fn dup(stack: &mut Stack) -> Result<(), OpFault>
     ensures { Answers (dup_row stack.old) result stack.old stack.new }
 {
-    let Some(top) = stack.top() else {
+    if stack.len() == 0 {
         return Err(OpFault::Ps(PsName::StackUnderflow));
-    };
-    let top = *top;
-    push(stack, top)
+    }
+    if stack.len() == MAX_OPERANDS {
+        return Err(OpFault::Ps(PsName::StackOverflow));
+    }
+    stack.copy_top(1);
+    Ok(())
 }
 
 pub(crate) fn clear(stack: &mut Stack) -> Result<(), OpFault>
