@@ -1,6 +1,6 @@
 //! The store of composites: strings, arrays and dictionaries.
 //!
-//! A read outside a composite gives null or nothing, and a write outside changes nothing.
+//! A read outside a composite gives null, 0 for a string, or nothing, and a write outside changes nothing.
 ghost use Rattle.std.specs.Prelude.{◌≡◌, ◌≤◌, ◌<◌, ◌+◌, ◌*◌, ◌^◌, ◌++◌, ◌∷◌, [], ◌↔◌, ℕ, true, false, length, OnOk, OnErr, IfOk, IfSome, IsErrOf, IsTrue, Some, None, replicate, slice_get, slice_index_or};
 ghost use Rattle.std.specs.Option.{option_copied};
 ghost use Rattle.ps_store.specs.Store.{Kept, fits, with_new, with_composite, next_span, with_text, with_text_of, with_array, with_array_of, element, item, operator_of, object_at, object_in, bytes_of, objects_of, put_in, put_at, found, has, entries_of, entry_at, as_objects, with_dict, defined, is_new_in, is_full_of, with_entry};
