@@ -390,6 +390,7 @@ impl Body {
     fn begin_empty_turn(&mut self, _end: &mut End, op: FlowOp) -> Turn
         ensures { turned op Pushes.Nothing self.old ≡ step_of result self.new _end.new }
     {
+        // That there are at most 500 operands is what the proof wants of this.
         let _operands = self.stack.len();
         Turn::Went
     }
