@@ -19,6 +19,11 @@ pub(crate) fn turn(items: &mut [Obj], k: usize)
     if k == 0 || k == items.len() {
         return;
     }
+    // By one place the library moves the others as one block, and only one object waits aside.
+    if k == 1 || k + 1 == items.len() {
+        items.rotate_left(k);
+        return;
+    }
     let mut settled = [false; MAX_OPERANDS];
     for start in 0..items.len() {
         settle_cycle(items, &mut settled, k, start);
@@ -99,6 +104,8 @@ mod tests {
             ("three cycles of two", 6, 3, "defabc"),
             ("one cycle of five", 5, 3, "deabcf"),
             ("two cycles of two", 4, 2, "cdabef"),
+            ("down by one", 6, 1, "bcdefa"),
+            ("up by one", 6, 5, "fabcde"),
             ("by none", 6, 0, "abcdef"),
             ("by a whole turn", 6, 6, "abcdef"),
             ("none at all", 0, 0, "abcdef"),
