@@ -7,7 +7,7 @@ It prints the programs on which they differ, and last 'N passed, M failed'. READ
 """
 import random
 
-import flow_operators  # noqa: F401: it adds its operators to OPERATORS
+import flow_operators  # It adds its operators to OPERATORS, as data_operators does.
 from compare import Case, run
 from data_operators import TYPES
 from language import Ended, Machine, Unmodelled, is_procedure
@@ -212,7 +212,7 @@ def check(value, depth=0):
     if isinstance(value, (Integer, Real, Boolean, Name, String)):
         parts.append(f'{literal(value)} ne {{wrong}} if')
     elif isinstance(value, Operator):
-        parts.append(f'<{value.name.encode().hex()}> load ne {{wrong}} if')
+        parts.append(f'systemdict <{value.name.encode().hex()}> get ne {{wrong}} if')
     elif isinstance(value, Array):
         parts.append(check_elements(value, depth))
     elif isinstance(value, Dictionary):

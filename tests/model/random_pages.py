@@ -15,6 +15,7 @@ from page import Page
 COLOURS = (('setgray', 1), ('setgray', 1), ('setrgbcolor', 3), ('setcmykcolor', 4))
 LINES = ('setlinewidth', 'setlinewidth', 'setlinecap', 'setlinejoin', 'setmiterlimit', 'setdash',
          'setdash')
+FIRST = ('setlinecap', 'setlinejoin', 'setmiterlimit', 'setlinewidth', 'setdash', 'moveto')
 MATRICES = ('translate', 'scale', 'rotate', 'concat', 'setmatrix', 'initmatrix')
 PATHS = ('moveto', 'lineto', 'lineto', 'lineto', 'lineto', 'rmoveto', 'rlineto', 'rlineto',
          'curveto', 'curveto', 'rcurveto', 'arc', 'arcn', 'closepath', 'closepath', 'newpath')
@@ -107,9 +108,13 @@ class Maker:
         return [self.between(-4, max(self.width, self.height)) for _ in range(NUMBERS[operator])]
 
     def dash(self):
-        size = self.random.randint(0, 5)
-        dashes = [self.random.choice((0, max(self.between(0, 4), ONE // 2),
-                                      self.random.randint(1, 3) * ONE)) for _ in range(size)]
+        """Dashes of at least half a point; wild programs, whose lines are long, have long ones."""
+        unit = ONE * 4096 if self.mood == 'wild' else ONE
+        dashes = [self.random.choice((0, self.random.randint(unit // 2, 4 * unit),
+                                      self.random.randint(1, 3) * unit))
+                  for _ in range(self.random.randint(0, 5))]
+        if not any(dashes) and self.random.random() < 0.9:
+            dashes.append(unit)
         return [dashes, self.between(-6, 6)]
 
     def matrix(self):
@@ -124,11 +129,11 @@ class Maker:
         if operator in ('concat', 'setmatrix'):
             return [self.matrix()]
         if operator == 'setlinecap':
-            return [self.random.choice((0, 0, 1, 1, 1, 1, 2, 2, 2, 2, 3)) * ONE]
+            return [self.random.choice((0, 1, 1, 2, 2) * 4 + (3,)) * ONE]
         if operator == 'setlinejoin':
-            return [self.random.choice((0, 0, 0, 0, 1, 1, 1, 2, 2, 2, 3)) * ONE]
+            return [self.random.choice((0, 0, 0, 1, 2) * 4 + (3,)) * ONE]
         if operator == 'setmiterlimit':
-            return [self.random.randint(ONE * 15 // 16, 12 * ONE)]
+            return [self.random.randint(ONE * 7 // 8, 8 * ONE)]
         levels = dict(COLOURS).get(operator, 0)
         return [self.random.randint(-ONE // 4, ONE) for _ in range(levels)]
 
@@ -136,10 +141,11 @@ class Maker:
         return Step(operator, self.operands(operator), self.random.random() < 0.3)
 
     def steps(self, page):
-        """Some steps of all kinds, each mark in a colour of its own, and a stroke at the end.
+        """Some line parameters, steps of all kinds, each mark in a colour, and a stroke at the end.
 
         What the page is by then says where a path has to begin; now and then it does not.
         """
+        yield from (self.step(operator) for operator in FIRST if self.random.random() < 0.6)
         lists, weights = zip(*KINDS)
         for _ in range(self.random.randint(6, 30)):
             operators, = self.random.choices(lists, weights)
@@ -176,4 +182,4 @@ def case(seed):
 
 
 if __name__ == '__main__':
-    run(case, 450)
+    run(case, 600)
