@@ -172,6 +172,7 @@ def arc_angles(start, end, clockwise):
 
 
 def arc_angles_up(start, end, check):
+    """The same against the clock; the end that was raised has to be a real."""
     if end < start:
         end += -(-(start - end) // FULL_TURN) * FULL_TURN
     check(end)

@@ -1,7 +1,9 @@
 """A model of the language: its stacks, procedures, loops, `stopped` and errors.
 
-`Machine(text).run()` says how a program ends. Sections are those of the PostScript Language
-Reference, third edition; how execution levels count, and the command of an error, are own rules.
+`Machine(text, operators).run()` runs a program; it raises `Ended` where an error or `quit` ends it
+before its text does. Texts have no comments, and of strings only those of small letters in `( )`.
+Sections are those of the PostScript Language Reference, third edition; how execution levels count,
+and the command of an error, are own rules.
 """
 import re
 
@@ -36,7 +38,7 @@ class Unmodelled(Exception):
 def number_of(word):
     """The number that a word is, if it is one (3.2.2 Numbers; the limits are own rules)."""
     if INTEGER.fullmatch(word):
-        return limited(Integer(int(word)), 2 ** 31)
+        return limited(Integer(int(word)))
     found = REAL.fullmatch(word)
     if found:
         return real_of(found['sign'], found['whole'], found['part'] or '', found['exponent'] or '0')
@@ -57,11 +59,12 @@ def real_of(sign, whole, part, exponent):
         raise Failure('limitcheck', 'scan')
     raw = int(whole + part) * ONE * (-1 if sign == '-' else 1)
     scale = int(exponent) - len(part)
-    return limited(Real(raw * 10 ** scale if scale >= 0 else div_round(raw, 10 ** -scale)), 2 ** 31)
+    return limited(Real(raw * 10 ** scale if scale >= 0 else div_round(raw, 10 ** -scale)))
 
 
-def limited(number, bound):
-    if not -bound * ONE <= number.raw < bound * ONE:
+def limited(number):
+    """A number whose magnitude is below 2^31, or -2^31."""
+    if not -2 ** 31 * ONE <= number.raw < 2 ** 31 * ONE:
         raise Failure('limitcheck', 'scan')
     return number
 
@@ -105,7 +108,7 @@ class Machine:
         self.count = 0
 
     def run(self):
-        """Runs to the end of the text, or raises `Ended` with how it ended before."""
+        """Runs to the end of the text; raises `Ended` where the program ends before."""
         while True:
             try:
                 if not self.step() and not self.read():
@@ -116,7 +119,7 @@ class Machine:
                 raise Unmodelled('long')
 
     def step(self):
-        """Executes the next object of the levels, if there is one (3.5.4 Execution Stack)."""
+        """Executes the next object of the levels, if there is one (3.5 Execution)."""
         if self.pending is not None:
             value, self.pending = self.pending, None
             self.execute(value)
@@ -146,7 +149,7 @@ class Machine:
         self.operands += turn
 
     def read(self):
-        """Executes the next object of the text, or adds it to an open procedure (3.2, 3.5.3)."""
+        """Executes the next object of the text, or adds it to an open procedure (3.5 Execution)."""
         token = next(self.tokens, None)
         if token is None:
             return False
@@ -174,7 +177,10 @@ class Machine:
         return Name(token.encode(), True) if number is None else number
 
     def execute(self, value):
-        """An executable name means what it is defined as; the rest is pushed (3.5.5)."""
+        """An executable name means what it is defined as, the rest is pushed.
+
+        3.5.3 Execution of Specific Types.
+        """
         if isinstance(value, Name) and value.executable:
             self.execute_found(value, self.find(value))
         elif isinstance(value, Operator):

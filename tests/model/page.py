@@ -15,7 +15,7 @@ WHITE = (255, 255, 255)
 
 @dataclass(frozen=True)
 class Lines:
-    """The line parameters (4.3.1 Graphics State Parameters), numbers by raw values."""
+    """The line parameters (4.2 Graphics State), numbers by raw values."""
     width: int = ONE
     cap: int = 0
     join: int = 0
@@ -38,7 +38,7 @@ class Colour:
         return tuple(255 - min(255, ink + self.codes[3]) for ink in self.codes[:3])
 
     def gray(self):
-        """The gray of the codes by raw value (7.2 Conversions between Device Color Spaces)."""
+        """The gray of the codes by raw value (7.2 Conversions among Device Color Spaces)."""
         if len(self.codes) == 1:
             return div_round(self.codes[0] * ONE, 255)
         weighed = sum(weight * code for weight, code in zip((30, 59, 11, 100), self.codes))

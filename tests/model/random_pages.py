@@ -30,6 +30,8 @@ STATES = ('gsave', 'gsave', 'grestore', 'grestore', 'grestoreall', 'grestoreall'
           'erasepage', 'showpage')
 KINDS = ((PATHS, 55), (PAINTS, 16), (LINES, 12), (MATRICES, 7), (CLIPS, 5), (QUERIES, 5),
          (STATES, 7))
+# Differences in half points that have a whole length.
+WHOLE_LENGTHS = ((3, 4), (4, 3), (6, 8), (8, 6), (0, 2), (2, 0), (0, 5), (5, 0), (10, 0), (0, 10))
 NUMBERS = {'translate': 2, 'scale': 2, 'rotate': 1, 'moveto': 2, 'lineto': 2, 'rmoveto': 2,
            'rlineto': 2, 'curveto': 6, 'rcurveto': 6, 'arc': 5, 'arcn': 5, 'rectclip': 4,
            'rectfill': 4, 'rectstroke': 4, 'transform': 2, 'itransform': 2, 'setlinewidth': 1}
@@ -104,13 +106,15 @@ class Maker:
         if operator == 'scale':
             return [self.random.choice((-1, 1, 1)) * self.between(0, 2) for _ in 'xy']
         if operator == 'rlineto' and self.mood == 'neat':
-            return self.random.sample((0, self.between(-4, 8)), 2)
+            return [side * self.random.choice((-1, 1)) * ONE // 2
+                    for side in self.random.choice(WHOLE_LENGTHS)]
         return [self.between(-4, max(self.width, self.height)) for _ in range(NUMBERS[operator])]
 
     def dash(self):
         """Dashes of at least half a point; wild programs, whose lines are long, have long ones."""
         unit = ONE * 4096 if self.mood == 'wild' else ONE
-        dashes = [self.random.choice((0, self.random.randint(unit // 2, 4 * unit),
+        parts = 2 if self.mood == 'neat' else unit
+        dashes = [self.random.choice((0, self.random.randint(parts // 2, 4 * parts) * unit // parts,
                                       self.random.randint(1, 3) * unit))
                   for _ in range(self.random.randint(0, 5))]
         if not any(dashes) and self.random.random() < 0.9:
