@@ -269,4 +269,4 @@ def case(seed):
 
 
 if __name__ == '__main__':
-    run(case, 900)
+    run(case, 850)

@@ -186,4 +186,4 @@ def case(seed):
 
 
 if __name__ == '__main__':
-    run(case, 600)
+    run(case, 500)
