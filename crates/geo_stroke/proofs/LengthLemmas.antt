@@ -1,9 +1,10 @@
 -- Lengths of segments: that they are above 0, and at least as long as each step.
-use Rattle.std.proofs.Common.{◌≡◌, ℕ, zero, suc, ◌+◌, ◌*◌, ◌<◌, ◌≤◌, ◌==◌, ◌&&◌, Bool, true, false, leb, arith, refl}
+use Rattle.std.proofs.Common.{◌≡◌, ℕ, zero, suc, ◌+◌, ◌*◌, ◌/◌, ◌<◌, ◌≤◌, ◌==◌, ◌&&◌, ◌^◌, Bool, true, false, leb, arith, refl, sym, ap, ◌∙◌, unsigned_abs}
 use Rattle.std.proofs.lemmas.Bool.{leb-true, leb-false}
-use Rattle.std.proofs.Math.Nat.{mul-le-mul_left}
-use Rattle.press_nums.specs.Roots.{IsRoot}
-use Rattle.press_nums.proofs.RootLemmas.{square_is}
+use Rattle.std.proofs.Math.Nat.{mul-le-mul_left, mul-le-mul}
+use Rattle.press_nums.specs.Roots.{root, IsRoot}
+use Rattle.press_nums.proofs.RootLemmas.{square_is, is_root, root_is, root_greatest}
+use Rattle.geo_stroke.specs.Segment.{Segment, HasLength, step_x, step_y, is_point, square_of, length_of}
 
 pub by_bool : {P : Type 0} (b : Bool) → (b ≡ true → P) → (b ≡ false → P) → P
 by_bool true f g = f refl
@@ -27,6 +28,40 @@ pub some_length : (x y r : ℕ) → (x == 0 && y == 0) ≡ false → 256 * x ≤
 some_length zero zero r e f g = cc
 some_length zero (suc y) r e f g = omega arith
 some_length (suc x) y r e f g = omega arith
+
+-- a length is at most 2^41
+length_most : (q r : ℕ) → q ≤ 2 ^ 65 → IsRoot 2 (q * 65536) r → r ≤ 2 ^ 41
+length_most q r h i = by_le r (2 ^ 41) (λ e. e)
+    (λ f. let above : 2 ^ 41 + 1 ≤ r = f in
+    let more : (2 ^ 41 + 1) * (2 ^ 41 + 1) ≤ r * r = mul-le-mul above above in
+    omega (arith, more, h, i.fits, square_is r))
+
+-- what a length in 1/65536 of a dot keeps
+pub has_length : (s : Segment) (q r : ℕ) → is_point s ≡ false → q ≡ square_of s → q ≤ 2 ^ 65 → r ≡ root 2 (q * 65536) → IsRoot 2 (q * 65536) r → HasLength s r
+has_length s q r differs e h v i =
+    let x = step_reaches (unsigned_abs (step_x s)) (unsigned_abs (step_y s)) q r e i in
+    let y = other_step_reaches (unsigned_abs (step_x s)) (unsigned_abs (step_y s)) q r e i in
+    record {
+      value = ap (λ n. root 2 (n * 65536)) (sym e) ∙ sym v;
+      some = some_length (unsigned_abs (step_x s)) (unsigned_abs (step_y s)) r differs x y;
+      x = x;
+      y = y;
+      bound = length_most q r h i;
+    }
+
+-- a root of 65536 times a number is 256 times its root, but for what is rounded off
+coarse_root : (n r : ℕ) → IsRoot 2 (n * 65536) r → IsRoot 2 n (r / 256)
+coarse_root n r i =
+    let low : 256 * (r / 256) ≤ r = omega arith in
+    let high : r < 256 * (r / 256 + 1) = omega arith in
+    let more : 256 * (r / 256) * (256 * (r / 256)) ≤ r * r = mul-le-mul low low in
+    is_root 2 n (r / 256) (rw square_is (omega (arith, more, i.fits, square_is r)))
+    (rw square_is (by_le ((r / 256 + 1) * (r / 256 + 1)) n
+    (λ f. absurd (let e = i.greatest (256 * (r / 256 + 1)) (rw square_is (omega (arith, f))) in omega (arith, e, high)))
+    (λ f. f)))
+
+pub length_by : (s : Segment) (r : ℕ) → HasLength s r → r / 256 ≡ length_of s
+length_by s r h = rw (sym h.value) (root_is 2 (square_of s) _ (omega arith) (coarse_root (square_of s) _ (root_greatest 2 (square_of s * 65536) (omega arith))))
 
 -- a share of h by a step of at most the whole is at most h
 pub share_most : (l h s n q : ℕ) → 0 < l → n ≡ s * h * 256 → 256 * s ≤ l → 2 * (l * q) ≤ 2 * n + l → q ≤ h

@@ -1,16 +1,23 @@
 -- Places on chains of segments.
-use Rattle.std.proofs.Common.{◌≡◌, ℕ, zero, suc, ◌+◌, ◌-◌, ◌*◌, ◌<◌, ◌≤◌, ◌^◌, arith, refl, ap, sym, subst, ◌∙◌, List, [], ◌∷◌, ◌++◌, append_assoc, nat_lt}
+use Rattle.std.proofs.Common.{◌≡◌, ℕ, zero, suc, ◌+◌, ◌-◌, ◌*◌, ◌<◌, ◌≤◌, ◌^◌, arith, refl, ap, sym, subst, ◌∙◌, List, [], ◌∷◌, ◌++◌, append_assoc, append-nil, nat_lt, length, take}
 use Rattle.std.specs.Prelude.{ℤ, pos, negsuc, ◌+ℤ◌, ◌*ℤ◌, ◌≤ℤ◌, ◌<ℤ◌, unsigned_abs, if◌then◌else◌}
 use Rattle.std.proofs.lemmas.Int.{ints}
 use Rattle.std.proofs.lemmas.Bool.{le-leb, lt-leb, le-ltb}
 use Rattle.std.proofs.Math.Bool.{and-true, and-false}
 use Rattle.std.proofs.Math.Nat.{mul-le-mul_left}
+use Rattle.std.proofs.Math.ListN.{get_or}
+use Rattle.std.proofs.Math.Seq.{take-suc}
+use Rattle.std.proofs.lemmas.Grind.{flat_map-append}
+use Rattle.std.specs.List.{flat_map}
+use Rattle.page_model.specs.declared.shape.Shape.{Shape}
 use Rattle.press_nums.specs.Rounding.{IsNearest}
 use Rattle.press_fault.specs.Plane.{Spot}
 use Rattle.geo_stroke.specs.Segment.{Segment, fine_length_of}
-use Rattle.geo_stroke.specs.Dash.{Place, place_on, place_from, corners_from, total_of, point_at, dash_points}
+use Rattle.geo_stroke.specs.Dash.{Place, place_on, place_from, corners_from, total_of, point_at, dash_points, dash_shapes}
 use Rattle.geo_stroke.proofs.LengthLemmas.{by_le}
-use Rattle.geo_stroke.specs.Cursor.{IsAhead, IsCursor}
+use Rattle.geo_stroke.specs.Cursor.{IsAhead, IsCursor, later_by}
+use Rattle.geo_stroke.specs.declared.dash.Dash.{Dash}
+use Rattle.geo_stroke.specs.Pen.{PenValue}
 
 -- a part of a step, rounded, lies between 0 and the step
 positive_most : (n t l k : ℕ) → 0 < l → t ≤ l → l * 2 * k ≤ n * t * 2 + l → k ≤ n
@@ -144,3 +151,19 @@ points_done s rest from to whole points new p h w e n =
 pub total_append : (xs ys : List Segment) → total_of (xs ++ ys) ≡ total_of xs + total_of ys
 total_append [] ys = omega arith
 total_append (x ∷ xs) ys = let e = total_append xs ys in omega arith
+
+-- what a dash paints is found from any place on the chain that isn't beyond its start
+pub dash_ahead : (pen : PenValue) (s here : Segment) (all rest : List Segment) (passed : ℕ) (dash : Dash) → IsAhead s all here rest passed dash.from → dash.from ≤ dash.to → dash_shapes pen here rest (later_by passed dash) ≡ dash_shapes pen s all dash
+dash_ahead pen s here all rest passed dash a h = rw (a.place dash.from (omega arith), a.place dash.to h, a.corners dash.to) refl
+
+-- the shapes of one dash more
+next_dash : (f : Dash → List Shape) (dashes : List Dash) (k : ℕ) (d : Dash) → k < length dashes → flat_map f (take (k + 1) dashes) ≡ flat_map f (take k dashes) ++ f (get_or dashes k d)
+next_dash f dashes k d h =
+    let one : k + 1 ≡ suc k = omega arith in
+    ap (flat_map f) (ap (λ n. take n dashes) one ∙ take-suc dashes k d h)
+    ∙ flat_map-append f (take k dashes) (get_or dashes k d ∷ [])
+    ∙ ap (λ t. flat_map f (take k dashes) ++ t) (append-nil (f (get_or dashes k d)))
+
+pub dashes_next : (f : Dash → List Shape) (dashes : List Dash) (k : ℕ) (d : Dash) (old now new more : List Shape) → k < length dashes → now ≡ old ++ flat_map f (take k dashes) → new ≡ now ++ more → more ≡ f (get_or dashes k d) → new ≡ old ++ flat_map f (take (k + 1) dashes)
+dashes_next f dashes k d old now new more h a b e =
+    rw (next_dash f dashes k d h, b, a, e) (append_assoc old (flat_map f (take k dashes)) (f (get_or dashes k d)))

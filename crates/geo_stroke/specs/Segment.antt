@@ -2,7 +2,7 @@
 -- third edition, 8.2 `stroke`). Points are in sub-dots, 1/256 of a dot, y downwards. Own rules: two
 -- equal points in a row are one; lengths are whole roots, rounded down; half a width along or across a
 -- segment is rounded once for each coordinate.
-use Rattle.std.specs.Prelude.{ℕ, ◌+◌, ◌*◌, ◌≤◌, ◌^◌, ◌==◌, ◌≡◌, Bool, false, ◌&&◌, ℤ, pos, neg_ℤ, ◌+ℤ◌, ◌-ℤ◌, ◌*ℤ◌, ◌≤ℤ◌, unsigned_abs, List, [], ◌∷◌, ◌++◌, if◌then◌else◌}
+use Rattle.std.specs.Prelude.{ℕ, ◌+◌, ◌*◌, ◌<◌, ◌≤◌, ◌^◌, ◌==◌, ◌≡◌, Bool, false, ◌&&◌, ℤ, pos, neg_ℤ, ◌+ℤ◌, ◌-ℤ◌, ◌*ℤ◌, ◌≤ℤ◌, unsigned_abs, List, [], ◌∷◌, ◌++◌, if◌then◌else◌}
 use Rattle.press_nums.specs.Rounding.{div_round}
 use Rattle.press_nums.specs.Roots.{root}
 use Rattle.press_fault.specs.Plane.{Spot}
@@ -64,6 +64,14 @@ pub record IsSegment (s : Segment) : Type 0 where
   pub start : IsNear s.from
   pub end : IsNear s.to
   pub differs : is_point s ≡ false
+
+-- a segment's length in 1/65536 of a dot, and how it compares
+pub record HasLength (s : Segment) (length : ℕ) : Type 0 where
+  pub value : fine_length_of s ≡ length
+  pub some : 0 < length
+  pub x : 256 * unsigned_abs (step_x s) ≤ length
+  pub y : 256 * unsigned_abs (step_y s) ≤ length
+  pub bound : length ≤ 2 ^ 41
 
 -- half a line's width, as every pen has it
 pub record IsHalf (half : ℤ) : Type 0 where

@@ -3,29 +3,35 @@ ghost use Rattle.std.specs.Prelude.{◌≡◌, ◌≤◌, ◌<◌, ◌^◌, ◌+
 ghost use Rattle.press_nums.specs.Rounding.{div_round};
 ghost use Rattle.geo_matrix.specs.Affine.{IsNear};
 ghost use Rattle.press_nums.specs.Roots.{root};
-ghost use Rattle.geo_stroke.specs.Segment.{IsSegment, IsHalf, IsThin, IsFar, step_x, step_y, is_point, square_of, length_of, fine_length_of, along, across, plus, minus, turned};
+ghost use Rattle.geo_stroke.specs.Segment.{IsSegment, IsHalf, IsThin, IsFar, step_x, step_y, is_point, square_of, length_of, fine_length_of, HasLength, along, across, plus, minus, turned};
 
 use press_fault::Point;
 use press_nums::{Wide, isqrt};
 use std::marker::Model;
 
 /// A segment of a line, from a point to another one; both are of a magnitude below 2^31 sub-dots.
+///
+/// Its length is kept, since a stroke asks for it at each dash, join and cap.
 #[derive(Clone, Copy)]
 pub(crate) struct Segment {
     from: Point,
     to: Point,
+    /// In 1/65536 of a dot.
+    length: u64,
 }
 
 impl Model for Segment {
-    ghost use Rattle.geo_stroke.specs.Segment.{Segment, IsSegment};
+    ghost use Rattle.geo_stroke.specs.Segment.{Segment, IsSegment, HasLength, fine_length_of};
 
     ghost Value = { Segment };
 
     ghost view = { λ s. record { from = s.from; to = s.to } };
 
-    ghost invariant = { λ s. IsSegment (record { from = s.from; to = s.to }) };
+    ghost invariant = { λ s. IsSegment (record { from = s.from; to = s.to }) × HasLength (record { from = s.from; to = s.to }) s.length };
 
-    ghost inverse = { λ v. record { from = v.from; to = v.to } };
+    ghost inverse = { λ v. record { from = v.from; to = v.to; length = fine_length_of v } };
+
+    ghost inverse_ok = { λ s h i. record { from = s.from; to = s.to; length = h.1.value i } };
 }
 
 impl Segment {
@@ -61,22 +67,13 @@ impl Segment {
         self.to.wide_y() - self.from.wide_y()
     }
 
-    /// The square of its length, in sub-dots.
-    fn square(self) -> u128
-        ensures value { result ≡ square_of self }
-        ensures differs { is_point self ≡ false }
-        ensures bound { result ≤ 2 ^ 65 }
-    {
-        let _ = &self.from;
-        square(self.step_x()) + square(self.step_y())
-    }
-
     /// Its length in sub-dots.
+    #[tactic(auto, using(crate::proofs::LengthLemmas::length_by))]
     pub(crate) fn length(self) -> Wide
         ensures value { result ≡ pos (length_of self) }
         ensures bound { unsigned_abs result ≤ 2 ^ 33 }
     {
-        Wide::of_size(u128::from(isqrt(self.square())))
+        Wide::of_size(u128::from(self.length / 256))
     }
 
     /// Its length in 1/65536 of a dot.
@@ -87,7 +84,7 @@ impl Segment {
         ensures y { 256 * unsigned_abs (step_y self) ≤ unsigned_abs result }
         ensures bound { unsigned_abs result ≤ 2 ^ 41 }
     {
-        Wide::of_size(u128::from(isqrt(self.square() * 65536)))
+        Wide::of_size(u128::from(self.length))
     }
 
     /// Its length in 1/65536 of a dot, as a distance.
@@ -154,8 +151,29 @@ pub(crate) fn segment_of(from: Point, to: Point) -> Option<Segment>
     if (to.wide_x() - from.wide_x()).is_zero() && (to.wide_y() - from.wide_y()).is_zero() {
         None
     } else {
-        Some(Segment { from, to })
+        let length = measured(from, to);
+        Some(Segment { from, to, length })
     }
+}
+
+/// How far apart two points are that differ, in 1/65536 of a dot.
+fn measured(from: Point, to: Point) -> u64
+    requires from { IsNear from }
+    requires to { IsNear to }
+    requires differs { is_point (record { from = from; to = to }) ≡ false }
+    ensures { HasLength (record { from = from; to = to }) result }
+{
+    isqrt(square_between(from, to) * 65536)
+}
+
+/// The square of how far apart two points are, in sub-dots.
+fn square_between(from: Point, to: Point) -> u128
+    requires from { IsNear from }
+    requires to { IsNear to }
+    ensures value { result ≡ square_of (record { from = from; to = to }) }
+    ensures bound { result ≤ 2 ^ 65 }
+{
+    square(to.wide_x() - from.wide_x()) + square(to.wide_y() - from.wide_y())
 }
 
 /// A way from one point to another, in sub-dots.

@@ -9,8 +9,6 @@
 
 mod clips;
 mod colour;
-#[cfg(test)]
-mod drawn;
 mod gfx;
 mod held;
 mod line_style;
@@ -21,11 +19,7 @@ mod paths;
 mod pen;
 mod points;
 mod state;
-#[cfg(test)]
-mod stroked;
 mod strokes;
-#[cfg(test)]
-mod worked;
 
 pub use colour::Space;
 pub use gfx::Gfx;

@@ -1,6 +1,6 @@
 -- Rectangles (PostScript Language Reference, third edition, 8.2 Operator Details: rectfill, rectstroke, rectclip). Own rules:
 -- both sums are asked before any point; the first two leave the path as it is.
-use Rattle.std.specs.Prelude.{ℤ, ◌+ℤ◌, true, List, [], ◌∷◌, drop, map, Option, Some, None, Result, Ok, Err}
+use Rattle.std.specs.Prelude.{ℤ, ◌+ℤ◌, true, List, [], ◌∷◌, drop, map, Option, Some, Result, Ok, Err}
 use Rattle.press_nums.specs.Fix.{fix_of}
 use Rattle.press_fault.specs.Plane.{Spot}
 use Rattle.press_fault.specs.declared.names.PsName.{PsName}

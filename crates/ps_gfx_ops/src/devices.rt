@@ -1,9 +1,9 @@
 //! `setpagedevice`: pages of another size.
-ghost use Rattle.std.specs.Prelude.{◌≡◌, ◌≤◌, ◌<ℤ◌, pos, IfOk, OnOk, length, codes};
+ghost use Rattle.std.specs.Prelude.{◌≡◌, ◌≤◌, IfOk, OnOk, length, codes};
 ghost use Rattle.ps_store.specs.Outcome.{Answers};
 ghost use Rattle.gfx_state.specs.Graphics.{PageSize};
 ghost use Rattle.gfx_state.specs.Keeping.{IsPageSize};
-ghost use Rattle.ps_gfx_ops.specs.Devices.{side_of, page_or_configuration, dots_of_sides, two_or_range, sides_of, size_in, one_size, setpagedevice_row};
+ghost use Rattle.ps_gfx_ops.specs.Devices.{side_of, page_or_configuration, dots_of_sides, sides_of, size_in, one_size, setpagedevice_row};
 
 use crate::matrices::are_numbers;
 use crate::points::point_of;

@@ -1,10 +1,7 @@
 //! Operators on the line parameters.
-ghost use Rattle.std.specs.Prelude.{◌≡◌, ◌≤◌, OnOk, IfOk, Some, None, length, map, true};
-ghost use Rattle.std.specs.List.{list_all};
+ghost use Rattle.std.specs.Prelude.{◌≡◌, ◌≤◌, OnOk, IfOk, length, map};
 ghost use Rattle.ps_store.specs.Outcome.{Answers};
-ghost use Rattle.gfx_state.specs.Graphics.{with_dash};
-ghost use Rattle.ps_gfx_ops.specs.Matrices.{is_number};
-ghost use Rattle.ps_gfx_ops.specs.Lines.{integer_or_type, one_integer, number_in, dash_operands, setlinewidth_row, setmiterlimit_row, setlinecap_row, setlinejoin_row, setdash_row, currentlinewidth_row};
+ghost use Rattle.ps_gfx_ops.specs.Lines.{one_integer, number_in, setlinewidth_row, setmiterlimit_row, setlinecap_row, setlinejoin_row, setdash_row, currentlinewidth_row};
 
 use crate::matrices::are_numbers;
 use crate::points::one_number;

@@ -1,10 +1,8 @@
 -- The graphics operators leave at most 500 operands.
 use Rattle.std.specs.Prelude.{ℤ, nat_lt, true, false}
-use Rattle.std.proofs.Common.{◌≤◌, ◌<◌, List, [], ◌∷◌, length, Option, Some, None, Result, Ok, Err, arith}
+use Rattle.std.proofs.Common.{◌≤◌, ◌<◌, List, [], ◌∷◌, length, Option, Some, None, arith}
 use Rattle.std.proofs.lemmas.Bool.{ltb-true}
 use Rattle.std.proofs.lemmas.List.{length-drop}
-use Rattle.press_fault.specs.Plane.{Spot}
-use Rattle.press_fault.specs.declared.names.PsName.{PsName}
 use Rattle.ps_store.specs.declared.obj.Obj.{Obj}
 use Rattle.ps_store.specs.declared.obj.Obj.TheVariants.{Array, Real}
 use Rattle.ps_store.specs.declared.obj.Span.{Span}
@@ -15,7 +13,7 @@ use Rattle.ps_store.specs.Outcome.{Outcome, Goes, Refuses, or_limit}
 use Rattle.ps_store.specs.Store.{Kept, with_array_of}
 use Rattle.page_model.specs.declared.shape.Rule.TheVariants.{Nonzero, EvenOdd}
 use Rattle.gfx_state.specs.Colour.{gray_of}
-use Rattle.gfx_state.specs.Graphics.{Graphics, painted}
+use Rattle.gfx_state.specs.Graphics.{Graphics}
 use Rattle.geo_matrix.specs.Affine.{identity}
 use Rattle.ps_gfx_ops.specs.Easel.{Easel}
 use Rattle.ps_gfx_ops.specs.Scene.{Scene, beside}

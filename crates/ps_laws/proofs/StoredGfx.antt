@@ -1,8 +1,6 @@
 -- The graphics operators leave operands that are of the store.
 use Rattle.std.specs.Prelude.{ℤ, nat_lt, true, false}
-use Rattle.std.proofs.Common.{ℕ, List, [], ◌∷◌, length, arith, Option, Some, None, Result, Ok, Err}
-use Rattle.press_fault.specs.Plane.{Spot}
-use Rattle.press_fault.specs.declared.names.PsName.{PsName}
+use Rattle.std.proofs.Common.{ℕ, List, [], ◌∷◌, length, arith, Option, Some, None}
 use Rattle.ps_store.specs.declared.obj.Obj.{Obj}
 use Rattle.ps_store.specs.declared.obj.Obj.TheVariants.{Array, Real}
 use Rattle.ps_store.specs.declared.obj.Span.{Span}
@@ -14,7 +12,7 @@ use Rattle.ps_store.specs.Store.{Kept, with_array_of}
 use Rattle.ps_store.specs.Gathering.{with_elements}
 use Rattle.page_model.specs.declared.shape.Rule.TheVariants.{Nonzero, EvenOdd}
 use Rattle.gfx_state.specs.Colour.{gray_of}
-use Rattle.gfx_state.specs.Graphics.{Graphics, painted}
+use Rattle.gfx_state.specs.Graphics.{Graphics}
 use Rattle.geo_matrix.specs.Affine.{Affine, identity}
 use Rattle.ps_gfx_ops.specs.Easel.{Easel}
 use Rattle.ps_gfx_ops.specs.Scene.{Scene, beside}

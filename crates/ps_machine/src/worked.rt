@@ -1,5 +1,8 @@
-//! Worked examples of what a machine answers at its end.
+//! Worked examples of what a machine answers at its end, and of a path that is exchanged, which no operator does.
 use crate::{End, Event, Machine, Setup};
+use geo_path::Path;
+use gfx_state::Gfx;
+use press_fault::Point;
 use std::test::Fail;
 
 fn machine(rt: &HostRuntime, program: &str) -> Result<Machine, Fail> {
@@ -48,5 +51,14 @@ fn the_same_end_is_answered_again(rt: HostRuntime) -> Result<(), Fail> {
             assert_eq!(rt; answer(&rt, &mut machine)?.as_str(), expected, "{name}");
         }
     }
+    Ok(())
+}
+
+#[test]
+fn a_path_is_exchanged_for_another(rt: HostRuntime) -> Result<(), Fail> {
+    let mut gfx = Gfx::new(rt.alloc(), 1, 1, 72)?;
+    assert_eq!(rt; gfx.move_to(Point::new(0, 0)), Ok(()));
+    let before = gfx.swap_path(Path::new(rt.alloc()))?;
+    assert_eq!(rt; (before.count(), gfx.path().count()), (1, 0));
     Ok(())
 }
