@@ -1,11 +1,11 @@
 //! Where the edges of rings cross a row.
 ghost use Rattle.std.specs.Prelude.{◌≡◌, ◌≤◌, ◌<◌, ◌^◌, ℕ, ℤ, nat_le, OnOk, IfSome, IsTrue, int_le, ◌*ℤ◌, unsigned_abs};
 ghost use Rattle.press_fault.specs.Plane.{IsWithin};
-ghost use Rattle.page_model.specs.Inside.{centre, crosses_left, turn_of, ring_winding, winding, is_between as in_range};
+ghost use Rattle.page_model.specs.Inside.{centre, crosses_left, turn_of, ring_winding, winding};
 ghost use Rattle.geo_fill.specs.Crossings.{whole_turn, turn_by, IsOfRange};
 ghost use Rattle.geo_fill.specs.Steps.{AreAdded};
 
-use page_model::Ring;
+use page_model::{Ring, centre_of, is_between, product_of_differences};
 use press_fault::{Mem, Point};
 use press_nums::Wide;
 
@@ -152,8 +152,8 @@ fn line_at(low: Point, high: Point, height: Wide) -> Line
     ensures bound { unsigned_abs result.rise < 2 ^ 46 }
 {
     let rise = high.wide_y() - low.wide_y();
-    let across = product(height - low.wide_y(), high.wide_x() - low.wide_x());
-    let reach = product(low.wide_x(), rise) + across;
+    let across = product_of_differences(height - low.wide_y(), high.wide_x() - low.wide_x());
+    let reach = product_of_differences(low.wide_x(), rise) + across;
     Line { reach, rise }
 }
 
@@ -162,29 +162,5 @@ fn is_right_of(line: &Line, col: u32) -> bool
     requires { unsigned_abs line.now.rise < 2 ^ 46 }
     ensures { result ≡ int_le line.now.reach (centre col *ℤ line.now.rise) }
 {
-    line.reach.is_at_most(product(centre_of(col), line.rise))
-}
-
-/// A product of two differences of coordinates.
-fn product(a: Wide, b: Wide) -> Wide
-    requires a { unsigned_abs a < 2 ^ 46 }
-    requires b { unsigned_abs b < 2 ^ 46 }
-    ensures value { result ≡ a *ℤ b }
-    ensures bound { unsigned_abs result < 2 ^ 92 }
-{
-    a * b
-}
-
-fn is_between(a: Wide, b: Wide, height: Wide) -> bool
-    ensures { result ≡ in_range a b height }
-{
-    a.is_at_most(height) && height.is_below(b)
-}
-
-/// The centre of a row or a column, in sub-dots.
-fn centre_of(k: u32) -> Wide
-    ensures value { result ≡ centre k }
-    ensures bound { IsWithin result }
-{
-    Wide::of(256 * i64::from(k) + 128)
+    line.reach.is_at_most(product_of_differences(centre_of(col), line.rise))
 }

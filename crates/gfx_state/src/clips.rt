@@ -16,7 +16,8 @@ const REGIONS: usize = 256;
 impl Gfx {
     /// Cuts the clip to the path, which stays; refused exactly where the clip has 256 regions.
     ///
-    /// A path without points adds a region without rings, which holds nothing.
+    /// A path without points adds a region without rings, which holds nothing. A refusal leaves all
+    /// as it was (PostScript Language Reference, third edition, 8.2 `clip`).
     pub fn clip(&mut self, rule: Rule) -> Result<(), Grow>
         ensures ok { OnOk result (clipped self.old rule ≡ Some self.new) }
         ensures limit { IsErrOf result Grow.LimitCheck ↔ (clipped self.old rule ≡ None) }
@@ -27,7 +28,8 @@ impl Gfx {
         Ok(())
     }
 
-    /// Cuts the clip to a path; refused exactly where the clip has 256 regions.
+    /// Cuts the clip to a path; refused exactly where the clip has 256 regions. A refusal leaves all
+    /// as it was (PostScript Language Reference, third edition, 8.2 `rectclip`).
     pub fn clip_to(&mut self, rule: Rule, path: &Path) -> Result<(), Grow>
         ensures ok { OnOk result (clipped_to self.old rule path.now ≡ Some self.new) }
         ensures limit { IsErrOf result Grow.LimitCheck ↔ (clipped_to self.old rule path.now ≡ None) }

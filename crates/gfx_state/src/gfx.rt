@@ -94,7 +94,8 @@ impl Gfx {
         self.initial();
     }
 
-    /// The size of the page: its width and height in dots, and the dots of an inch.
+    /// The size of the page: its width and height in dots, and the dots of an inch (PostScript
+    /// Language Reference, third edition, 6.2 `PageSize` and `HWResolution`).
     pub fn size(&self) -> (u32, u32, u32)
         ensures width { result.0 ≡ self.now.size.width }
         ensures height { result.1 ≡ self.now.size.height }

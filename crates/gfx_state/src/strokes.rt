@@ -1,6 +1,7 @@
 //! Strokes of paths.
 ghost use Rattle.std.specs.Prelude.{◌≡◌, Some, None, Err, OnOk, OnErr, IfOk};
 ghost use Rattle.gfx_state.specs.Graphics.{stroke_of, stroked, stroked_along};
+ghost use Rattle.gfx_state.specs.Stroke.{pen_of};
 
 use crate::gfx::Gfx;
 use crate::pen::pen;
@@ -17,10 +18,12 @@ impl Gfx {
     /// One mark of the shapes of all subpaths, none where there are no shapes. It is refused where
     /// the width is 2^31 sub-dots or more, a dash or the offset 2^62 counts of 1/65536 of a dot,
     /// also without a path; with more than 65,536 dashes; and where the page has no room for the
-    /// mark.
+    /// mark. The first two are told before any memory is taken. A refusal leaves all as it was
+    /// (PostScript Language Reference, third edition, 8.2 `stroke`).
     pub fn mark_stroke(&mut self) -> Result<(), Grow>
         ensures ok { OnOk result (stroked self.old ≡ Some self.new) }
         ensures limit { result ≡ Err Grow.LimitCheck → stroked self.old ≡ None }
+        ensures pen { pen_of self.old.state.matrix self.old.state.line ≡ None → result ≡ Err Grow.LimitCheck }
         ensures err { OnErr result (self.new ≡ self.old) }
     {
         let shapes = stroke(self.alloc, &self.state, self.path())?;
@@ -29,10 +32,13 @@ impl Gfx {
         Ok(())
     }
 
-    /// Strokes a path, as `mark_stroke` does the current one, which stays.
+    /// Strokes a path, as `mark_stroke` does the current one, which stays. It is refused for the
+    /// same reasons, and a refusal leaves all as it was (PostScript Language Reference, third
+    /// edition, 8.2 `rectstroke`).
     pub fn mark_stroke_of(&mut self, path: &Path) -> Result<(), Grow>
         ensures ok { OnOk result (stroked_along self.old path.now ≡ Some self.new) }
         ensures limit { result ≡ Err Grow.LimitCheck → stroked_along self.old path.now ≡ None }
+        ensures pen { pen_of self.old.state.matrix self.old.state.line ≡ None → result ≡ Err Grow.LimitCheck }
         ensures err { OnErr result (self.new ≡ self.old) }
     {
         let shapes = stroke(self.alloc, &self.state, path)?;
@@ -45,6 +51,7 @@ impl Gfx {
 fn stroke(alloc: Global, state: &State, path: &Path) -> Result<Shapes, Grow>
     ensures ok { IfOk result (λ shapes. stroke_of state.now path.now ≡ Some shapes) }
     ensures limit { result ≡ Err Grow.LimitCheck → stroke_of state.now path.now ≡ None }
+    ensures pen { pen_of state.now.matrix state.now.line ≡ None → result ≡ Err Grow.LimitCheck }
 {
     let pen = pen(alloc, &state.matrix, &state.line)?;
     let lines = path.flatten()?;

@@ -7,8 +7,8 @@ use crate::{Ring, Rule};
 use press_fault::Point;
 use press_nums::Wide;
 
-/// The centre of a row or a column, in sub-dots.
-pub(crate) fn centre_of(k: u32) -> Wide
+/// The centre of a row or a column, in sub-dots. Its number may be any that a `u32` has.
+pub fn centre_of(k: u32) -> Wide
     ensures value { result ≡ centre k }
     ensures bound { IsWithin result }
 {
@@ -23,12 +23,14 @@ fn crosses_at_left(low: Point, high: Point, px: Wide, py: Wide) -> bool
     ensures { result ≡ crosses_left low high px py }
 {
     let height = high.wide_y() - low.wide_y();
-    let across = product(py - low.wide_y(), high.wide_x() - low.wide_x());
-    (product(low.wide_x(), height) + across).is_at_most(product(px, height))
+    let across = product_of_differences(py - low.wide_y(), high.wide_x() - low.wide_x());
+    (product_of_differences(low.wide_x(), height) + across).is_at_most(product_of_differences(
+        px, height,
+    ))
 }
 
-/// A product of two differences of coordinates.
-fn product(a: Wide, b: Wide) -> Wide
+/// The product of two differences of coordinates, both in sub-dots.
+pub fn product_of_differences(a: Wide, b: Wide) -> Wide
     requires a { unsigned_abs a < 2 ^ 46 }
     requires b { unsigned_abs b < 2 ^ 46 }
     ensures value { result ≡ a *ℤ b }
@@ -53,10 +55,12 @@ fn turn(from: Point, to: Point, px: Wide, py: Wide) -> Wide
     }
 }
 
-fn is_between(a: Wide, b: Wide, py: Wide) -> bool
-    ensures { result ≡ in_range a b py }
+/// Whether a height is at `a` or above it, and below `b`: an edge from `a` to `b` crosses it rising. All
+/// three are in sub-dots.
+pub fn is_between(a: Wide, b: Wide, height: Wide) -> bool
+    ensures { result ≡ in_range a b height }
 {
-    a.is_at_most(py) && py.is_below(b)
+    a.is_at_most(height) && height.is_below(b)
 }
 
 /// The winding number of a closed ring.

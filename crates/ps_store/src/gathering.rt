@@ -1,5 +1,5 @@
 //! Many objects at once, between strings, arrays and the operands.
-ghost use Rattle.std.specs.Prelude.{◌≡◌, ◌↔◌, [], Some, None, IsErrOf, ◌≤◌, ◌<◌, ◌+◌, ◌^◌, ◌++◌, length, reverse, take, drop, IfOk, OnErr, vec_len};
+ghost use Rattle.std.specs.Prelude.{◌≡◌, ◌↔◌, [], Some, None, IsErrOf, ◌≤◌, ◌<◌, ◌+◌, ◌^◌, ◌++◌, length, reverse, take, drop, replicate, IfOk, OnErr, vec_len};
 ghost use Rattle.ps_store.specs.Gathering.{elements, with_elements, integers, with_dict_of};
 
 use crate::entries::Entries;
@@ -43,7 +43,8 @@ impl Store {
 
     /// So many zeros, as room for bytes that are to be put into a string.
     pub fn zeros(&self, len: u32) -> Mem<Vec<u8>>
-        ensures { IfOk result (λ room. vec_len room ≡ len) }
+        ensures len { IfOk result (λ room. vec_len room ≡ len) }
+        ensures zeros { IfOk result (λ room. room.items ≡ replicate len 0) }
     {
         Ok(vec![in self.alloc; 0; len as usize]?)
     }
