@@ -43,7 +43,13 @@ pub enum Obj {
     File,
 }
 
+/// Null, as an array that was just made holds.
 impl Default for Obj {
+    ghost use Rattle.std.specs.Prelude.{◌≡◌};
+    ghost use Rattle.ps_store.specs.declared.obj.Obj.TheVariants.{Null};
+
+    ghost is_default = { λ o. o ≡ Null };
+
     fn default() -> Obj {
         Obj::Null
     }
