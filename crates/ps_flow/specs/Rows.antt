@@ -1,6 +1,6 @@
 -- The operators on the execution stack (PostScript Language Reference, third edition, 8.2 Operator Details), each by
 -- its operands, the top first: enough of them, then their types, then the operator's own conditions.
-use Rattle.std.specs.Prelude.{ℕ, ℤ, true, false, List, [], ◌∷◌, length, Option, Some, None, pos, int_lt, unsigned_abs, map, if◌then◌else◌}
+use Rattle.std.specs.Prelude.{ℕ, ℤ, Bool, true, false, List, [], ◌∷◌, length, Option, Some, None, pos, int_lt, unsigned_abs, map, if◌then◌else◌}
 use Rattle.std.specs.List.{range_with_len}
 use Rattle.press_fault.specs.declared.names.PsName.TheVariants.{StackUnderflow, TypeCheck, RangeCheck, InvalidExit}
 use Rattle.ps_store.specs.declared.obj.Obj.{Obj}
@@ -108,3 +108,9 @@ flow_row Op.Exit operands levels s dicts = with_store s (exit_row operands level
 flow_row Op.Stop operands levels s dicts = with_store s (stop_row operands levels)
 flow_row Op.Stopped operands levels s dicts = with_store s (stopped_row operands levels)
 flow_row Op.Bind operands levels s dicts = with_levels operands levels (bind_row operands s dicts)
+
+-- the operators that may find no memory: forall keeps the contents at its start, bind what it has reached
+abbrev pub takes_memory : FlowOp → Bool
+takes_memory Op.Forall = true
+takes_memory Op.Bind = true
+takes_memory op = false

@@ -1,8 +1,9 @@
 //! The operators on the execution stack.
-ghost use Rattle.std.specs.Prelude.{◌≡◌, ◌≤◌, ◌<◌, length, drop, IfOk, None, map};
+ghost use Rattle.std.specs.Prelude.{◌≡◌, ◌≢◌, ◌≤◌, ◌<◌, length, drop, true, Err, IfOk, None, map};
 ghost use Rattle.ps_store.specs.Gathering.{elements};
+ghost use Rattle.ps_store.specs.Outcome.{TellsRefusal};
 ghost use Rattle.ps_flow.specs.Course.{Answers, AnswersAll, opens, with_levels};
-ghost use Rattle.ps_flow.specs.Rows.{flow_row, exec_row, if_row, ifelse_row, for_row, for_from, repeat_row, loop_row, forall_row, keys_and_values, exit_row, stop_row, stopped_row, bind_row};
+ghost use Rattle.ps_flow.specs.Rows.{flow_row, takes_memory, exec_row, if_row, ifelse_row, for_row, for_from, repeat_row, loop_row, forall_row, keys_and_values, exit_row, stop_row, stopped_row, bind_row};
 ghost use Rattle.ps_flow.specs.Levels.{nothing_of};
 
 use crate::binding::bind_procedure;
@@ -21,7 +22,8 @@ type Then = Result<Option<Obj>, OpFault>;
 /// Does what an operator does, exactly as its row says (PostScript Language Reference, third
 /// edition, 8.2 Operator Details). It answers what `exec` or `stopped` found that is no
 /// procedure, to be executed at once; after `stop` true is to be pushed. An error of the language
-/// leaves operands, levels and store as they were; after out of memory nothing is said of them.
+/// leaves operands, levels and store as they were; after out of memory nothing is said of them. Out
+/// of memory comes of `forall` and `bind` alone, and never in place of a refusal.
 #[tactic(auto, unfolding(crate::specs::Rows::flow_row))]
 pub fn run_flow(
     op: FlowOp,
@@ -30,7 +32,9 @@ pub fn run_flow(
     store: &mut Store,
     dicts: &Dicts,
 ) -> Then
-    ensures { AnswersAll (flow_row op stack.old flow.old store.old dicts.now) result (record { operands = stack.old; levels = flow.old; store = store.old }) (record { operands = stack.new; levels = flow.new; store = store.new }) }
+    ensures answers { AnswersAll (flow_row op stack.old flow.old store.old dicts.now) result (record { operands = stack.old; levels = flow.old; store = store.old }) (record { operands = stack.new; levels = flow.new; store = store.new }) }
+    ensures refused { TellsRefusal (flow_row op stack.old flow.old store.old dicts.now) result }
+    ensures memory { result ≡ Err OpFault.NoMemory → takes_memory op ≡ true }
 {
     match op {
         FlowOp::Exec => exec(stack, flow),
@@ -50,7 +54,8 @@ pub fn run_flow(
 /// Opens a level in the place of the top `n` operands.
 fn open(stack: &mut Stack, flow: &mut Flow, n: usize, level: Level, at_once: Option<Obj>) -> Then
     requires { n ≤ length stack.old }
-    ensures { Answers (opens level (drop n stack.old) flow.old at_once) result stack.old flow.old stack.new flow.new }
+    ensures answers { Answers (opens level (drop n stack.old) flow.old at_once) result stack.old flow.old stack.new flow.new }
+    ensures never { result ≢ Err OpFault.NoMemory }
 {
     if flow.is_full() {
         return Err(OpFault::Ps(PsName::ExecStackOverflow));
@@ -61,7 +66,8 @@ fn open(stack: &mut Stack, flow: &mut Flow, n: usize, level: Level, at_once: Opt
 }
 
 fn exec(stack: &mut Stack, flow: &mut Flow) -> Then
-    ensures { Answers (exec_row stack.old flow.old) result stack.old flow.old stack.new flow.new }
+    ensures answers { Answers (exec_row stack.old flow.old) result stack.old flow.old stack.new flow.new }
+    ensures never { result ≢ Err OpFault.NoMemory }
 {
     let Some(top) = stack.top() else {
         return Err(OpFault::Ps(PsName::StackUnderflow));
@@ -77,7 +83,8 @@ fn exec(stack: &mut Stack, flow: &mut Flow) -> Then
 }
 
 fn if_(stack: &mut Stack, flow: &mut Flow) -> Then
-    ensures { Answers (if_row stack.old flow.old) result stack.old flow.old stack.new flow.new }
+    ensures answers { Answers (if_row stack.old flow.old) result stack.old flow.old stack.new flow.new }
+    ensures never { result ≢ Err OpFault.NoMemory }
 {
     let Some((p, b)) = stack.top_two() else {
         return Err(OpFault::Ps(PsName::StackUnderflow));
@@ -96,7 +103,8 @@ fn if_(stack: &mut Stack, flow: &mut Flow) -> Then
 }
 
 fn ifelse(stack: &mut Stack, flow: &mut Flow) -> Then
-    ensures { Answers (ifelse_row stack.old flow.old) result stack.old flow.old stack.new flow.new }
+    ensures answers { Answers (ifelse_row stack.old flow.old) result stack.old flow.old stack.new flow.new }
+    ensures never { result ≢ Err OpFault.NoMemory }
 {
     let Some((otherwise, then, b)) = stack.top_three() else {
         return Err(OpFault::Ps(PsName::StackUnderflow));
@@ -115,7 +123,8 @@ fn ifelse(stack: &mut Stack, flow: &mut Flow) -> Then
 }
 
 fn for_(stack: &mut Stack, flow: &mut Flow) -> Then
-    ensures { Answers (for_row stack.old flow.old) result stack.old flow.old stack.new flow.new }
+    ensures answers { Answers (for_row stack.old flow.old) result stack.old flow.old stack.new flow.new }
+    ensures never { result ≢ Err OpFault.NoMemory }
 {
     let Some((p, limit, step, first)) = stack.top_four() else {
         return Err(OpFault::Ps(PsName::StackUnderflow));
@@ -138,7 +147,8 @@ fn for_from(
     limit: Option<Fix>,
 ) -> Then
     requires { 4 ≤ length stack.old }
-    ensures { Answers (for_from counter limit body (drop 4 stack.old) flow.old) result stack.old flow.old stack.new flow.new }
+    ensures answers { Answers (for_from counter limit body (drop 4 stack.old) flow.old) result stack.old flow.old stack.new flow.new }
+    ensures never { result ≢ Err OpFault.NoMemory }
 {
     let (Some(counter), Some(limit)) = (counter, limit) else {
         return Err(OpFault::Ps(PsName::TypeCheck));
@@ -153,7 +163,8 @@ fn for_from(
 }
 
 fn repeat(stack: &mut Stack, flow: &mut Flow) -> Then
-    ensures { Answers (repeat_row stack.old flow.old) result stack.old flow.old stack.new flow.new }
+    ensures answers { Answers (repeat_row stack.old flow.old) result stack.old flow.old stack.new flow.new }
+    ensures never { result ≢ Err OpFault.NoMemory }
 {
     let Some((p, n)) = stack.top_two() else {
         return Err(OpFault::Ps(PsName::StackUnderflow));
@@ -173,7 +184,8 @@ fn repeat(stack: &mut Stack, flow: &mut Flow) -> Then
 }
 
 fn loop_(stack: &mut Stack, flow: &mut Flow) -> Then
-    ensures { Answers (loop_row stack.old flow.old) result stack.old flow.old stack.new flow.new }
+    ensures answers { Answers (loop_row stack.old flow.old) result stack.old flow.old stack.new flow.new }
+    ensures never { result ≢ Err OpFault.NoMemory }
 {
     let Some(top) = stack.top() else {
         return Err(OpFault::Ps(PsName::StackUnderflow));
@@ -189,7 +201,8 @@ fn loop_(stack: &mut Stack, flow: &mut Flow) -> Then
 }
 
 fn forall(stack: &mut Stack, flow: &mut Flow, store: &Store) -> Then
-    ensures { Answers (forall_row stack.old flow.old store.now) result stack.old flow.old stack.new flow.new }
+    ensures answers { Answers (forall_row stack.old flow.old store.now) result stack.old flow.old stack.new flow.new }
+    ensures refused { TellsRefusal (forall_row stack.old flow.old store.now) result }
 {
     let Some((p, over)) = stack.top_two() else {
         return Err(OpFault::Ps(PsName::StackUnderflow));
@@ -220,7 +233,8 @@ fn forall_elements(
     over: Span,
 ) -> Then
     requires { 2 ≤ length stack.old }
-    ensures { Answers (opens (Level.Forall (elements store.now over) body (nothing_of body)) (drop 2 stack.old) flow.old None) result stack.old flow.old stack.new flow.new }
+    ensures answers { Answers (opens (Level.Forall (elements store.now over) body (nothing_of body)) (drop 2 stack.old) flow.old None) result stack.old flow.old stack.new flow.new }
+    ensures refused { TellsRefusal (opens (Level.Forall (elements store.now over) body (nothing_of body)) (drop 2 stack.old) flow.old None) result }
 {
     if flow.is_full() {
         return Err(OpFault::Ps(PsName::ExecStackOverflow));
@@ -244,7 +258,8 @@ fn contents(alloc: Global, store: &Store, over: Span) -> Mem<Vec<Obj>>
 /// Opens the level of a `forall` over a dictionary, in the place of two operands.
 fn forall_entries(stack: &mut Stack, flow: &mut Flow, store: &Store, body: Span, dict: u32) -> Then
     requires { 2 ≤ length stack.old }
-    ensures { Answers (opens (Level.ForallEntries (keys_and_values store.now dict) body (nothing_of body)) (drop 2 stack.old) flow.old None) result stack.old flow.old stack.new flow.new }
+    ensures answers { Answers (opens (Level.ForallEntries (keys_and_values store.now dict) body (nothing_of body)) (drop 2 stack.old) flow.old None) result stack.old flow.old stack.new flow.new }
+    ensures refused { TellsRefusal (opens (Level.ForallEntries (keys_and_values store.now dict) body (nothing_of body)) (drop 2 stack.old) flow.old None) result }
 {
     if flow.is_full() {
         return Err(OpFault::Ps(PsName::ExecStackOverflow));
@@ -274,7 +289,8 @@ fn entries(alloc: Global, store: &Store, dict: u32) -> Mem<Vec<(Obj, Obj)>>
 }
 
 fn exit(stack: &mut Stack, flow: &mut Flow) -> Then
-    ensures { Answers (exit_row stack.old flow.old) result stack.old flow.old stack.new flow.new }
+    ensures answers { Answers (exit_row stack.old flow.old) result stack.old flow.old stack.new flow.new }
+    ensures never { result ≢ Err OpFault.NoMemory }
 {
     if flow.leave_loop() {
         Ok(None)
@@ -284,7 +300,8 @@ fn exit(stack: &mut Stack, flow: &mut Flow) -> Then
 }
 
 fn stop(stack: &mut Stack, flow: &mut Flow) -> Then
-    ensures { Answers (stop_row stack.old flow.old) result stack.old flow.old stack.new flow.new }
+    ensures answers { Answers (stop_row stack.old flow.old) result stack.old flow.old stack.new flow.new }
+    ensures never { result ≢ Err OpFault.NoMemory }
 {
     if flow.unwind() {
         Ok(None)
@@ -294,7 +311,8 @@ fn stop(stack: &mut Stack, flow: &mut Flow) -> Then
 }
 
 fn stopped(stack: &mut Stack, flow: &mut Flow) -> Then
-    ensures { Answers (stopped_row stack.old flow.old) result stack.old flow.old stack.new flow.new }
+    ensures answers { Answers (stopped_row stack.old flow.old) result stack.old flow.old stack.new flow.new }
+    ensures never { result ≢ Err OpFault.NoMemory }
 {
     let Some(top) = stack.top() else {
         return Err(OpFault::Ps(PsName::StackUnderflow));
@@ -315,7 +333,8 @@ fn stopped(stack: &mut Stack, flow: &mut Flow) -> Then
 
 /// The operand stays.
 fn bind(stack: &Stack, flow: &Flow, store: &mut Store, dicts: &Dicts) -> Then
-    ensures { AnswersAll (with_levels stack.now flow.now (bind_row stack.now store.old dicts.now)) result (record { operands = stack.now; levels = flow.now; store = store.old }) (record { operands = stack.now; levels = flow.now; store = store.new }) }
+    ensures answers { AnswersAll (with_levels stack.now flow.now (bind_row stack.now store.old dicts.now)) result (record { operands = stack.now; levels = flow.now; store = store.old }) (record { operands = stack.now; levels = flow.now; store = store.new }) }
+    ensures refused { TellsRefusal (with_levels stack.now flow.now (bind_row stack.now store.old dicts.now)) result }
 {
     let Some(top) = stack.top() else {
         return Err(OpFault::Ps(PsName::StackUnderflow));

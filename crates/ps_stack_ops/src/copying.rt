@@ -1,7 +1,7 @@
 //! `copy` (PostScript Language Reference, third edition, 8.2 copy).
-ghost use Rattle.std.specs.Prelude.{◌≡◌, ◌≤◌, ◌<◌, ◌∷◌, length, drop, IfOk, IfErr};
+ghost use Rattle.std.specs.Prelude.{◌≡◌, ◌≢◌, ◌≤◌, ◌<◌, ◌∷◌, length, drop, Err, IfOk, IfErr};
 ghost use Rattle.ps_store.specs.Copying.{copied_part};
-ghost use Rattle.ps_store.specs.Outcome.{Answers};
+ghost use Rattle.ps_store.specs.Outcome.{Answers, TellsRefusal};
 ghost use Rattle.ps_stack_ops.specs.Rows.{copied, front_of, entries_copied, copy_row};
 
 use press_fault::{Grow, PsName};
@@ -9,11 +9,12 @@ use press_nums::Whole;
 use ps_store::{MAX_OPERANDS, Obj, OpFault, SYSTEMDICT, Span, Stack, Store};
 
 /// Copies operands by their number, or the items of one composite into another of its kind.
-#[tactic(auto, using(crate::proofs::Lifted::lifted))]
+#[tactic(auto, using(crate::proofs::Lifted::lifted, crate::proofs::Lifted::told))]
 pub(crate) fn copy(stack: &mut Stack, store: &mut Store) -> Result<(), OpFault>
-    ensures { Answers (copy_row stack.old store.old) result
+    ensures answers { Answers (copy_row stack.old store.old) result
         (record { operands = stack.old; store = store.old })
         (record { operands = stack.new; store = store.new }) }
+    ensures refused { TellsRefusal (copy_row stack.old store.old) result }
 {
     let Some((b, a)) = stack.top_two() else {
         return copy_one(stack, store);
@@ -63,7 +64,8 @@ fn fill(store: &mut Store, from: Span, to: Span) -> Result<Span, OpFault>
 
 /// Defines the entries of a dictionary in another one.
 fn define_entries(store: &mut Store, from: u32, to: u32) -> Result<(), OpFault>
-    ensures { Answers (entries_copied store.old from to) result store.old store.new }
+    ensures answers { Answers (entries_copied store.old from to) result store.old store.new }
+    ensures refused { TellsRefusal (entries_copied store.old from to) result }
 {
     if to == SYSTEMDICT {
         return Err(OpFault::Ps(PsName::InvalidAccess));
@@ -76,12 +78,13 @@ fn define_entries(store: &mut Store, from: u32, to: u32) -> Result<(), OpFault>
 }
 
 /// `copy` with fewer than two operands.
-#[tactic(auto, using(crate::proofs::Lifted::lifted))]
+#[tactic(auto, using(crate::proofs::Lifted::lifted, crate::proofs::Lifted::told))]
 fn copy_one(stack: &mut Stack, store: &Store) -> Result<(), OpFault>
     requires { length stack.old < 2 }
-    ensures { Answers (copy_row stack.old store.now) result
+    ensures answers { Answers (copy_row stack.old store.now) result
         (record { operands = stack.old; store = store.now })
         (record { operands = stack.new; store = store.now }) }
+    ensures never { result ≢ Err OpFault.NoMemory }
 {
     let Some(top) = stack.top() else {
         return Err(OpFault::Ps(PsName::StackUnderflow));
@@ -101,7 +104,8 @@ fn copy_one(stack: &mut Stack, store: &Store) -> Result<(), OpFault>
 /// Copies the top `n` of the operands below the number.
 fn copy_operands(stack: &mut Stack, n: Whole) -> Result<(), OpFault>
     requires { stack.old ≡ Obj.Int n ∷ drop 1 stack.old }
-    ensures { Answers (copied n (drop 1 stack.old)) result stack.old stack.new }
+    ensures answers { Answers (copied n (drop 1 stack.old)) result stack.old stack.new }
+    ensures never { result ≢ Err OpFault.NoMemory }
 {
     let n = n.get();
     let wanted = n.unsigned_abs() as usize;

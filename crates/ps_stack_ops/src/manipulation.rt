@@ -1,5 +1,5 @@
 //! Operators that only move operands (PostScript Language Reference, third edition, 8.2).
-ghost use Rattle.std.specs.Prelude.{◌≡◌, ◌∷◌, [], ◌<◌, ◌≤◌, drop, length, unsigned_abs, IfSome};
+ghost use Rattle.std.specs.Prelude.{◌≡◌, ◌≢◌, ◌∷◌, [], ◌<◌, ◌≤◌, drop, length, unsigned_abs, Err, IfSome};
 ghost use Rattle.ps_store.specs.Outcome.{Answers, pushed, Goes};
 ghost use Rattle.ps_stack_ops.specs.Rows.{pop_row, exch_row, dup_row, count_row, index_row, roll_row, cleartomark_row, counttomark_row};
 
@@ -9,7 +9,8 @@ use ps_store::{MAX_OPERANDS, Obj, OpFault, Stack};
 
 /// Puts an object on top.
 pub(crate) fn push(stack: &mut Stack, o: Obj) -> Result<(), OpFault>
-    ensures { Answers (pushed o stack.old) result stack.old stack.new }
+    ensures answers { Answers (pushed o stack.old) result stack.old stack.new }
+    ensures never { result ≢ Err OpFault.NoMemory }
 {
     match stack.push(o) {
         Ok(()) => Ok(()),
@@ -18,7 +19,8 @@ pub(crate) fn push(stack: &mut Stack, o: Obj) -> Result<(), OpFault>
 }
 
 pub(crate) fn pop(stack: &mut Stack) -> Result<(), OpFault>
-    ensures { Answers (pop_row stack.old) result stack.old stack.new }
+    ensures answers { Answers (pop_row stack.old) result stack.old stack.new }
+    ensures never { result ≢ Err OpFault.NoMemory }
 {
     if stack.len() == 0 {
         return Err(OpFault::Ps(PsName::StackUnderflow));
@@ -28,7 +30,8 @@ pub(crate) fn pop(stack: &mut Stack) -> Result<(), OpFault>
 }
 
 pub(crate) fn exch(stack: &mut Stack) -> Result<(), OpFault>
-    ensures { Answers (exch_row stack.old) result stack.old stack.new }
+    ensures answers { Answers (exch_row stack.old) result stack.old stack.new }
+    ensures never { result ≢ Err OpFault.NoMemory }
 {
     let Some((b, a)) = stack.top_two() else {
         return Err(OpFault::Ps(PsName::StackUnderflow));
@@ -39,7 +42,8 @@ pub(crate) fn exch(stack: &mut Stack) -> Result<(), OpFault>
 }
 
 pub(crate) fn dup(stack: &mut Stack) -> Result<(), OpFault>
-    ensures { Answers (dup_row stack.old) result stack.old stack.new }
+    ensures answers { Answers (dup_row stack.old) result stack.old stack.new }
+    ensures never { result ≢ Err OpFault.NoMemory }
 {
     if stack.len() == 0 {
         return Err(OpFault::Ps(PsName::StackUnderflow));
@@ -52,21 +56,24 @@ pub(crate) fn dup(stack: &mut Stack) -> Result<(), OpFault>
 }
 
 pub(crate) fn clear(stack: &mut Stack) -> Result<(), OpFault>
-    ensures { Answers (Goes []) result stack.old stack.new }
+    ensures answers { Answers (Goes []) result stack.old stack.new }
+    ensures never { result ≢ Err OpFault.NoMemory }
 {
     stack.clear();
     Ok(())
 }
 
 pub(crate) fn count(stack: &mut Stack) -> Result<(), OpFault>
-    ensures { Answers (count_row stack.old) result stack.old stack.new }
+    ensures answers { Answers (count_row stack.old) result stack.old stack.new }
+    ensures never { result ≢ Err OpFault.NoMemory }
 {
     let len = stack.len();
     push(stack, Obj::Int(Whole::of(len as i32)))
 }
 
 pub(crate) fn index(stack: &mut Stack) -> Result<(), OpFault>
-    ensures { Answers (index_row stack.old) result stack.old stack.new }
+    ensures answers { Answers (index_row stack.old) result stack.old stack.new }
+    ensures never { result ≢ Err OpFault.NoMemory }
 {
     let Some(top) = stack.top() else {
         return Err(OpFault::Ps(PsName::StackUnderflow));
@@ -87,7 +94,8 @@ pub(crate) fn index(stack: &mut Stack) -> Result<(), OpFault>
 }
 
 pub(crate) fn roll(stack: &mut Stack) -> Result<(), OpFault>
-    ensures { Answers (roll_row stack.old) result stack.old stack.new }
+    ensures answers { Answers (roll_row stack.old) result stack.old stack.new }
+    ensures never { result ≢ Err OpFault.NoMemory }
 {
     let Some((j, n)) = stack.top_two() else {
         return Err(OpFault::Ps(PsName::StackUnderflow));
@@ -111,7 +119,8 @@ pub(crate) fn roll(stack: &mut Stack) -> Result<(), OpFault>
 }
 
 pub(crate) fn cleartomark(stack: &mut Stack) -> Result<(), OpFault>
-    ensures { Answers (cleartomark_row stack.old) result stack.old stack.new }
+    ensures answers { Answers (cleartomark_row stack.old) result stack.old stack.new }
+    ensures never { result ≢ Err OpFault.NoMemory }
 {
     match stack.depth_of_mark() {
         Some(depth) => {
@@ -123,7 +132,8 @@ pub(crate) fn cleartomark(stack: &mut Stack) -> Result<(), OpFault>
 }
 
 pub(crate) fn counttomark(stack: &mut Stack) -> Result<(), OpFault>
-    ensures { Answers (counttomark_row stack.old) result stack.old stack.new }
+    ensures answers { Answers (counttomark_row stack.old) result stack.old stack.new }
+    ensures never { result ≢ Err OpFault.NoMemory }
 {
     match stack.depth_of_mark() {
         Some(depth) => push(stack, Obj::Int(Whole::of(depth as i32))),

@@ -1,5 +1,6 @@
 //! The operators by their rows, and the drivers of those that work one value out.
-ghost use Rattle.ps_store.specs.Outcome.{Answers};
+ghost use Rattle.std.specs.Prelude.{◌≡◌, ◌≢◌, Err};
+ghost use Rattle.ps_store.specs.Outcome.{Answers, TellsRefusal};
 ghost use Rattle.ps_stack_ops.specs.Rows.{stack_row, of_one, of_two};
 
 use crate::arithmetic::{
@@ -16,12 +17,15 @@ use press_fault::PsName;
 use ps_store::{Obj, OpFault, Stack, StackOp, Store};
 
 /// Does what an operator does, exactly as its row says. A refusal by an error of the language
-/// leaves operands and store as before; after out of memory nothing is said of them.
-#[tactic(auto, using(crate::proofs::Lifted::lifted), unfolding(crate::specs::Rows::stack_row))]
+/// leaves operands and store as before; after out of memory nothing is said of them. Out of
+/// memory comes of `copy` alone, and never in place of a refusal.
+#[tactic(auto, using(crate::proofs::Lifted::lifted, crate::proofs::Lifted::told), unfolding(crate::specs::Rows::stack_row))]
 pub fn run_stack(op: StackOp, stack: &mut Stack, store: &mut Store) -> Result<(), OpFault>
-    ensures { Answers (stack_row op stack.old store.old) result
+    ensures answers { Answers (stack_row op stack.old store.old) result
         (record { operands = stack.old; store = store.old })
         (record { operands = stack.new; store = store.new }) }
+    ensures refused { TellsRefusal (stack_row op stack.old store.old) result }
+    ensures memory { result ≡ Err OpFault.NoMemory → op ≡ StackOp.Copy }
 {
     match op {
         StackOp::Pop => pop(stack),
@@ -95,7 +99,8 @@ pub(crate) trait TwoOperands {
 
 /// Puts the value of an operator in the place of its operand.
 fn of_one<V: OneOperand>(stack: &mut Stack) -> Result<(), OpFault>
-    ensures { Answers (of_one V.value stack.old) result stack.old stack.new }
+    ensures answers { Answers (of_one V.value stack.old) result stack.old stack.new }
+    ensures never { result ≢ Err OpFault.NoMemory }
 {
     let Some(a) = stack.top() else {
         return Err(OpFault::Ps(PsName::StackUnderflow));
@@ -111,7 +116,8 @@ fn of_one<V: OneOperand>(stack: &mut Stack) -> Result<(), OpFault>
 
 /// Puts the value of an operator in the place of its two operands.
 fn of_two<V: TwoOperands>(stack: &mut Stack, store: &Store) -> Result<(), OpFault>
-    ensures { Answers (of_two (V.value store.now) stack.old) result stack.old stack.new }
+    ensures answers { Answers (of_two (V.value store.now) stack.old) result stack.old stack.new }
+    ensures never { result ≢ Err OpFault.NoMemory }
 {
     let Some((b, a)) = stack.top_two() else {
         return Err(OpFault::Ps(PsName::StackUnderflow));
