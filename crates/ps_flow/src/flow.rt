@@ -116,7 +116,8 @@ impl Flow {
 
 /// What comes next among the levels, outermost first.
 fn next_in(items: &mut ArrayVec<Level, MAX_LEVELS>, pushes: &mut Pushes) -> NextObj
-    ensures { next_of (reverse items.old.items) ≡ record { next = told result pushes.new; levels = reverse items.new.items } }
+    ensures { next_of (reverse items.old.items) ≡
+        record { next = told result pushes.new; levels = reverse items.new.items } }
 {
     while !items.is_empty() {
         let at = items.len() - 1;
@@ -134,7 +135,8 @@ fn next_in(items: &mut ArrayVec<Level, MAX_LEVELS>, pushes: &mut Pushes) -> Next
 
 /// The place of the innermost `stopped` among the levels, outermost first.
 fn place_of_stopped(levels: &[Level]) -> Option<usize>
-    ensures { MatchOption result (below_stopped (reverse levels.now) ≡ None) (λ at. below_stopped (reverse levels.now) ≡ Some (reverse (take at levels.now))) }
+    ensures { MatchOption result (below_stopped (reverse levels.now) ≡ None)
+        (λ at. below_stopped (reverse levels.now) ≡ Some (reverse (take at levels.now))) }
 {
     let mut at = levels.len();
     while at > 0 {
@@ -148,7 +150,8 @@ fn place_of_stopped(levels: &[Level]) -> Option<usize>
 
 /// The place of the loop that `exit` leaves among the levels, outermost first.
 fn place_of_loop(levels: &[Level]) -> Option<usize>
-    ensures { MatchOption result (below_loop (reverse levels.now) ≡ None) (λ at. below_loop (reverse levels.now) ≡ Some (reverse (take at levels.now))) }
+    ensures { MatchOption result (below_loop (reverse levels.now) ≡ None)
+        (λ at. below_loop (reverse levels.now) ≡ Some (reverse (take at levels.now))) }
 {
     let mut at = levels.len();
     while at > 0 {

@@ -127,7 +127,8 @@ pub(crate) fn given(level: &mut Level, pushes: &mut Pushes) -> Offer
 }
 
 fn loop_given(body: Span, rest: &mut Span) -> Offer
-    ensures { (pushes : Pushed) → given_of (Level.Loop body rest.old) ≡ record { gives = offered result pushes; level = Level.Loop body rest.new } }
+    ensures { (pushes : Pushed) → given_of (Level.Loop body rest.old) ≡
+        record { gives = offered result pushes; level = Level.Loop body rest.new } }
 {
     if rest.len == 0 {
         *rest = body;
@@ -137,7 +138,8 @@ fn loop_given(body: Span, rest: &mut Span) -> Offer
 }
 
 fn repeat_given(left: &mut u32, body: Span, rest: &mut Span) -> Offer
-    ensures { (pushes : Pushed) → given_of (Level.Repeat left.old body rest.old) ≡ record { gives = offered result pushes; level = Level.Repeat left.new body rest.new } }
+    ensures { (pushes : Pushed) → given_of (Level.Repeat left.old body rest.old) ≡
+        record { gives = offered result pushes; level = Level.Repeat left.new body rest.new } }
 {
     if rest.len == 0 {
         if *left == 0 {
@@ -157,7 +159,8 @@ fn for_given(
     rest: &mut Span,
     pushes: &mut Pushes,
 ) -> Offer
-    ensures { given_of (Level.For next.old limit body rest.old) ≡ record { gives = offered result pushes.new; level = Level.For next.new limit body rest.new } }
+    ensures { given_of (Level.For next.old limit body rest.old) ≡
+        record { gives = offered result pushes.new; level = Level.For next.new limit body rest.new } }
 {
     if rest.len == 0 {
         let Some(value) = next_value(next, limit) else {
@@ -171,7 +174,8 @@ fn for_given(
 }
 
 fn forall_given(left: &mut Objects, body: Span, rest: &mut Span, pushes: &mut Pushes) -> Offer
-    ensures { given_of (Level.Forall left.old body rest.old) ≡ record { gives = offered result pushes.new; level = Level.Forall left.new body rest.new } }
+    ensures { given_of (Level.Forall left.old body rest.old) ≡
+        record { gives = offered result pushes.new; level = Level.Forall left.new body rest.new } }
 {
     if rest.len == 0 {
         let Some(o) = left.next() else {
@@ -185,7 +189,8 @@ fn forall_given(left: &mut Objects, body: Span, rest: &mut Span, pushes: &mut Pu
 }
 
 fn entries_given(left: &mut Pairs, body: Span, rest: &mut Span, pushes: &mut Pushes) -> Offer
-    ensures { given_of (Level.ForallEntries left.old body rest.old) ≡ record { gives = offered result pushes.new; level = Level.ForallEntries left.new body rest.new } }
+    ensures { given_of (Level.ForallEntries left.old body rest.old) ≡
+        record { gives = offered result pushes.new; level = Level.ForallEntries left.new body rest.new } }
 {
     if rest.len == 0 {
         let Some((key, value)) = left.next() else {

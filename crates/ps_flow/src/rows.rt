@@ -32,7 +32,9 @@ pub fn run_flow(
     store: &mut Store,
     dicts: &Dicts,
 ) -> Then
-    ensures answers { AnswersAll (flow_row op stack.old flow.old store.old dicts.now) result (record { operands = stack.old; levels = flow.old; store = store.old }) (record { operands = stack.new; levels = flow.new; store = store.new }) }
+    ensures answers { AnswersAll (flow_row op stack.old flow.old store.old dicts.now) result
+        (record { operands = stack.old; levels = flow.old; store = store.old })
+        (record { operands = stack.new; levels = flow.new; store = store.new }) }
     ensures refused { TellsRefusal (flow_row op stack.old flow.old store.old dicts.now) result }
     ensures memory { result ≡ Err OpFault.NoMemory → takes_memory op ≡ true }
 {
@@ -54,7 +56,8 @@ pub fn run_flow(
 /// Opens a level in the place of the top `n` operands.
 fn open(stack: &mut Stack, flow: &mut Flow, n: usize, level: Level, at_once: Option<Obj>) -> Then
     requires { n ≤ length stack.old }
-    ensures answers { Answers (opens level (drop n stack.old) flow.old at_once) result stack.old flow.old stack.new flow.new }
+    ensures answers { Answers (opens level (drop n stack.old) flow.old at_once)
+        result stack.old flow.old stack.new flow.new }
     ensures never { result ≢ Err OpFault.NoMemory }
 {
     if flow.is_full() {
@@ -147,7 +150,8 @@ fn for_from(
     limit: Option<Fix>,
 ) -> Then
     requires { 4 ≤ length stack.old }
-    ensures answers { Answers (for_from counter limit body (drop 4 stack.old) flow.old) result stack.old flow.old stack.new flow.new }
+    ensures answers { Answers (for_from counter limit body (drop 4 stack.old) flow.old)
+        result stack.old flow.old stack.new flow.new }
     ensures never { result ≢ Err OpFault.NoMemory }
 {
     let (Some(counter), Some(limit)) = (counter, limit) else {
@@ -233,8 +237,12 @@ fn forall_elements(
     over: Span,
 ) -> Then
     requires { 2 ≤ length stack.old }
-    ensures answers { Answers (opens (Level.Forall (elements store.now over) body (nothing_of body)) (drop 2 stack.old) flow.old None) result stack.old flow.old stack.new flow.new }
-    ensures refused { TellsRefusal (opens (Level.Forall (elements store.now over) body (nothing_of body)) (drop 2 stack.old) flow.old None) result }
+    ensures answers { Answers
+        (opens (Level.Forall (elements store.now over) body (nothing_of body)) (drop 2 stack.old) flow.old None)
+        result stack.old flow.old stack.new flow.new }
+    ensures refused { TellsRefusal
+        (opens (Level.Forall (elements store.now over) body (nothing_of body)) (drop 2 stack.old) flow.old None)
+        result }
 {
     if flow.is_full() {
         return Err(OpFault::Ps(PsName::ExecStackOverflow));
@@ -258,8 +266,12 @@ fn contents(alloc: Global, store: &Store, over: Span) -> Mem<Vec<Obj>>
 /// Opens the level of a `forall` over a dictionary, in the place of two operands.
 fn forall_entries(stack: &mut Stack, flow: &mut Flow, store: &Store, body: Span, dict: u32) -> Then
     requires { 2 ≤ length stack.old }
-    ensures answers { Answers (opens (Level.ForallEntries (keys_and_values store.now dict) body (nothing_of body)) (drop 2 stack.old) flow.old None) result stack.old flow.old stack.new flow.new }
-    ensures refused { TellsRefusal (opens (Level.ForallEntries (keys_and_values store.now dict) body (nothing_of body)) (drop 2 stack.old) flow.old None) result }
+    ensures answers { Answers
+        (opens (Level.ForallEntries (keys_and_values store.now dict) body (nothing_of body)) (drop 2 stack.old) flow.old None)
+        result stack.old flow.old stack.new flow.new }
+    ensures refused { TellsRefusal
+        (opens (Level.ForallEntries (keys_and_values store.now dict) body (nothing_of body)) (drop 2 stack.old) flow.old None)
+        result }
 {
     if flow.is_full() {
         return Err(OpFault::Ps(PsName::ExecStackOverflow));
@@ -333,7 +345,9 @@ fn stopped(stack: &mut Stack, flow: &mut Flow) -> Then
 
 /// The operand stays.
 fn bind(stack: &Stack, flow: &Flow, store: &mut Store, dicts: &Dicts) -> Then
-    ensures answers { AnswersAll (with_levels stack.now flow.now (bind_row stack.now store.old dicts.now)) result (record { operands = stack.now; levels = flow.now; store = store.old }) (record { operands = stack.now; levels = flow.now; store = store.new }) }
+    ensures answers { AnswersAll (with_levels stack.now flow.now (bind_row stack.now store.old dicts.now))
+        result (record { operands = stack.now; levels = flow.now; store = store.old })
+        (record { operands = stack.now; levels = flow.now; store = store.new }) }
     ensures refused { TellsRefusal (with_levels stack.now flow.now (bind_row stack.now store.old dicts.now)) result }
 {
     let Some(top) = stack.top() else {

@@ -164,7 +164,8 @@ impl Body {
     /// Executes what stands at a place of the store.
     #[tactic(auto, unfolding(crate::specs::Steps::execute))]
     fn execute_at(&mut self, end: &mut End, place: Span) -> Mem<Turn>
-        ensures { IfOk result (λ turn. execute (element self.old.store place 0) self.old ≡ step_of turn self.new end.new) }
+        ensures { IfOk result
+            (λ turn. execute (element self.old.store place 0) self.old ≡ step_of turn self.new end.new) }
     {
         match self.store.at(place, 0) {
             Some(Obj::Oper(op)) => {
@@ -189,7 +190,8 @@ impl Body {
     /// Executes a copy of what stands at a place of the store.
     #[inline(never)]
     fn execute_copy(&mut self, end: &mut End, place: Span) -> Mem<Turn>
-        ensures { IfOk result (λ turn. execute (element self.old.store place 0) self.old ≡ step_of turn self.new end.new) }
+        ensures { IfOk result
+            (λ turn. execute (element self.old.store place 0) self.old ≡ step_of turn self.new end.new) }
     {
         let o = self.store.get(place, 0);
         self.execute(end, &o)
@@ -198,7 +200,8 @@ impl Body {
     /// Does the operator that a name at a place of the store leads to.
     fn operate_named(&mut self, end: &mut End, place: Span, op: Oper) -> Mem<Turn>
         requires { execute (element self.old.store place 0) self.old ≡ operate op self.old }
-        ensures { IfOk result (λ turn. execute (element self.old.store place 0) self.old ≡ step_of turn self.new end.new) }
+        ensures { IfOk result
+            (λ turn. execute (element self.old.store place 0) self.old ≡ step_of turn self.new end.new) }
     {
         self.operate(end, op)
     }

@@ -83,7 +83,9 @@ impl Body {
 
     /// A string of the text.
     fn meet_string(&mut self, end: &mut End, bytes: &Bytes) -> Mem<Turn>
-        ensures { IfOk result (λ turn. met_string (with_text_of self.old.store bytes.now) self.old ≡ step_of turn self.new end.new) }
+        ensures { IfOk result
+            (λ turn. met_string (with_text_of self.old.store bytes.now) self.old ≡
+            step_of turn self.new end.new) }
     {
         match self.store.new_text_of(bytes.items()) {
             Ok(span) => self.meet(end, &Obj::Text(span)),

@@ -115,7 +115,8 @@ impl Unclosed {
 
     /// Closes the innermost procedure, `None` where none is open.
     pub(crate) fn close(&mut self) -> Option<Procedure>
-        ensures { MatchOption result ((self.old ≡ []) × (self.new ≡ [])) (λ elements. self.old ≡ elements ∷ self.new) }
+        ensures { MatchOption result ((self.old ≡ []) × (self.new ≡ []))
+            (λ elements. self.old ≡ elements ∷ self.new) }
     {
         let closed = self.innermost.take();
         self.innermost = self.outer.pop();

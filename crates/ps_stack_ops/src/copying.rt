@@ -48,8 +48,11 @@ pub(crate) fn copy(stack: &mut Stack, store: &mut Store) -> Result<(), OpFault>
 /// Copies the items of a part of a string or an array to the first places of another, and gives
 /// these places.
 fn fill(store: &mut Store, from: Span, to: Span) -> Result<Span, OpFault>
-    ensures ok { IfOk result (λ part. (from.len ≤ to.len) × ((part ≡ front_of to from.len) × (store.new ≡ copied_part store.old from to))) }
-    ensures err { IfErr result (λ fault. (to.len < from.len) × ((fault ≡ OpFault.Ps PsName.RangeCheck) × (store.new ≡ store.old))) }
+    ensures ok { IfOk result
+        (λ part. (from.len ≤ to.len)
+        × ((part ≡ front_of to from.len) × (store.new ≡ copied_part store.old from to))) }
+    ensures err { IfErr result
+        (λ fault. (to.len < from.len) × ((fault ≡ OpFault.Ps PsName.RangeCheck) × (store.new ≡ store.old))) }
 {
     if to.len < from.len {
         return Err(OpFault::Ps(PsName::RangeCheck));

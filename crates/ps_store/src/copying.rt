@@ -95,9 +95,12 @@ fn extend(c: &mut Composite, source: &Composite, free: u64) -> Result<u64, Grow>
 }
 
 fn extend_entries(target: &mut Entries, source: &Entries, free: u64) -> Result<u64, Grow>
-    ensures ok { IfOk result (λ units. extended (Some (Composite.Dict source.now)) free (Composite.Dict target.old) ≡ Some (Composite.Dict target.new, units)) }
+    ensures ok { IfOk result
+        (λ units. extended (Some (Composite.Dict source.now)) free (Composite.Dict target.old) ≡
+        Some (Composite.Dict target.new, units)) }
     ensures bound { IfOk result (λ units. units ≤ free) }
-    ensures limit { IsErrOf result Grow.LimitCheck ↔ (extended (Some (Composite.Dict source.now)) free (Composite.Dict target.old) ≡ None) }
+    ensures limit { IsErrOf result Grow.LimitCheck
+        ↔ (extended (Some (Composite.Dict source.now)) free (Composite.Dict target.old) ≡ None) }
     ensures err { IsErrOf result Grow.LimitCheck → target.new ≡ target.old }
 {
     let fresh = fresh_entries(target, source);

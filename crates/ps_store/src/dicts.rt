@@ -40,7 +40,8 @@ impl Dicts {
     pub fn new(store: &mut Store) -> Mem<Dicts>
         requires { store.old.made ≡ [] }
         ensures ok { IfOk result (λ dicts. dicts ≡ 1 ∷ 0 ∷ []) }
-        ensures made { OnOk result (store.new ≡ record store.old { made = Composite.Dict [] ∷ Composite.Dict [] ∷ [] }) }
+        ensures made { OnOk result (store.new ≡
+            record store.old { made = Composite.Dict [] ∷ Composite.Dict [] ∷ [] }) }
     {
         let system = Entries::new(store.alloc);
         store.add(Composite::Dict(system), 0, 0)?;

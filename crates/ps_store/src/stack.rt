@@ -94,7 +94,8 @@ impl Stack {
 
     /// The top operand, and the two below it.
     pub fn top_three(&self) -> Option<(&Obj, &Obj, &Obj)>
-        ensures { MatchOption result (length self.now < 3) (λ r. self.now ≡ r.0.now ∷ r.1.now ∷ r.2.now ∷ drop 3 self.now) }
+        ensures { MatchOption result (length self.now < 3)
+            (λ r. self.now ≡ r.0.now ∷ r.1.now ∷ r.2.now ∷ drop 3 self.now) }
     {
         let len = self.items.len();
         if len < 3 {
@@ -110,7 +111,8 @@ impl Stack {
 
     /// The top operand, and the three below it.
     pub fn top_four(&self) -> Option<(&Obj, &Obj, &Obj, &Obj)>
-        ensures { MatchOption result (length self.now < 4) (λ r. self.now ≡ r.0.now ∷ r.1.now ∷ r.2.now ∷ r.3.now ∷ drop 4 self.now) }
+        ensures { MatchOption result (length self.now < 4)
+            (λ r. self.now ≡ r.0.now ∷ r.1.now ∷ r.2.now ∷ r.3.now ∷ drop 4 self.now) }
     {
         let len = self.items.len();
         if len < 4 {
@@ -127,7 +129,8 @@ impl Stack {
 
     /// The top operand, and the four below it.
     pub fn top_five(&self) -> Option<(&Obj, &Obj, &Obj, &Obj, &Obj)>
-        ensures { MatchOption result (length self.now < 5) (λ r. self.now ≡ r.0.now ∷ r.1.now ∷ r.2.now ∷ r.3.now ∷ r.4.now ∷ drop 5 self.now) }
+        ensures { MatchOption result (length self.now < 5)
+            (λ r. self.now ≡ r.0.now ∷ r.1.now ∷ r.2.now ∷ r.3.now ∷ r.4.now ∷ drop 5 self.now) }
     {
         let len = self.items.len();
         if len < 5 {
@@ -145,7 +148,8 @@ impl Stack {
 
     /// The top operand, and the five below it.
     pub fn top_six(&self) -> Option<(&Obj, &Obj, &Obj, &Obj, &Obj, &Obj)>
-        ensures { MatchOption result (length self.now < 6) (λ r. self.now ≡ r.0.now ∷ r.1.now ∷ r.2.now ∷ r.3.now ∷ r.4.now ∷ r.5.now ∷ drop 6 self.now) }
+        ensures { MatchOption result (length self.now < 6)
+            (λ r. self.now ≡ r.0.now ∷ r.1.now ∷ r.2.now ∷ r.3.now ∷ r.4.now ∷ r.5.now ∷ drop 6 self.now) }
     {
         let len = self.items.len();
         if len < 6 {
