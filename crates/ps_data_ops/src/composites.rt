@@ -27,7 +27,9 @@ pub(crate) fn refusal(fault: Grow) -> OpFault
 
 /// `array`: a new array of nulls.
 pub(crate) fn array(stack: &mut Stack, store: &mut Store) -> Result<(), OpFault>
-    ensures answers { Answers (array_row stack.old store.old) result (record { operands = stack.old; store = store.old }) (record { operands = stack.new; store = store.new }) }
+    ensures answers { Answers (array_row stack.old store.old) result
+        (record { operands = stack.old; store = store.old })
+        (record { operands = stack.new; store = store.new }) }
     ensures refused { TellsRefusal (array_row stack.old store.old) result }
 {
     let Some(top) = stack.top() else {
@@ -50,7 +52,9 @@ pub(crate) fn array(stack: &mut Stack, store: &mut Store) -> Result<(), OpFault>
 
 /// `string`: a new string of zero bytes.
 pub(crate) fn string(stack: &mut Stack, store: &mut Store) -> Result<(), OpFault>
-    ensures answers { Answers (string_row stack.old store.old) result (record { operands = stack.old; store = store.old }) (record { operands = stack.new; store = store.new }) }
+    ensures answers { Answers (string_row stack.old store.old) result
+        (record { operands = stack.old; store = store.old })
+        (record { operands = stack.new; store = store.new }) }
     ensures refused { TellsRefusal (string_row stack.old store.old) result }
 {
     let Some(top) = stack.top() else {
@@ -73,7 +77,9 @@ pub(crate) fn string(stack: &mut Stack, store: &mut Store) -> Result<(), OpFault
 
 /// `dict`: a new empty dictionary, which may grow past the size that is asked.
 pub(crate) fn dict(stack: &mut Stack, store: &mut Store) -> Result<(), OpFault>
-    ensures answers { Answers (dict_row stack.old store.old) result (record { operands = stack.old; store = store.old }) (record { operands = stack.new; store = store.new }) }
+    ensures answers { Answers (dict_row stack.old store.old) result
+        (record { operands = stack.old; store = store.old })
+        (record { operands = stack.new; store = store.new }) }
     ensures refused { TellsRefusal (dict_row stack.old store.old) result }
 {
     let Some(top) = stack.top() else {
@@ -96,7 +102,9 @@ pub(crate) fn dict(stack: &mut Stack, store: &mut Store) -> Result<(), OpFault>
 
 /// `]`: a new array of the operands above the topmost mark.
 pub(crate) fn close_array(stack: &mut Stack, store: &mut Store) -> Result<(), OpFault>
-    ensures answers { Answers (close_array_row stack.old store.old) result (record { operands = stack.old; store = store.old }) (record { operands = stack.new; store = store.new }) }
+    ensures answers { Answers (close_array_row stack.old store.old) result
+        (record { operands = stack.old; store = store.old })
+        (record { operands = stack.new; store = store.new }) }
     ensures refused { TellsRefusal (close_array_row stack.old store.old) result }
 {
     match stack.depth_of_mark() {
@@ -108,7 +116,9 @@ pub(crate) fn close_array(stack: &mut Stack, store: &mut Store) -> Result<(), Op
 /// Makes an array of the top `len` operands, in place of these and the mark below them.
 fn gather(stack: &mut Stack, store: &mut Store, len: usize) -> Result<(), OpFault>
     requires { len < length stack.old }
-    ensures answers { Answers (gathered_row len stack.old store.old) result (record { operands = stack.old; store = store.old }) (record { operands = stack.new; store = store.new }) }
+    ensures answers { Answers (gathered_row len stack.old store.old) result
+        (record { operands = stack.old; store = store.old })
+        (record { operands = stack.new; store = store.new }) }
     ensures refused { TellsRefusal (gathered_row len stack.old store.old) result }
 {
     let _held = stack.len();
@@ -145,7 +155,9 @@ pub(crate) fn aload(stack: &mut Stack, store: &Store) -> Result<(), OpFault>
 
 /// `astore`: as many operands as the array has elements become these.
 pub(crate) fn astore(stack: &mut Stack, store: &mut Store) -> Result<(), OpFault>
-    ensures answers { Answers (astore_row stack.old store.old) result (record { operands = stack.old; store = store.old }) (record { operands = stack.new; store = store.new }) }
+    ensures answers { Answers (astore_row stack.old store.old) result
+        (record { operands = stack.old; store = store.old })
+        (record { operands = stack.new; store = store.new }) }
     ensures never { result ≢ Err OpFault.NoMemory }
 {
     let Some(top) = stack.top() else {

@@ -81,7 +81,9 @@ fn give_home(stack: &mut Stack, home: Option<u32>) -> Result<(), OpFault>
 
 /// `def`: a value of a key of the dictionary on top.
 pub(crate) fn def(stack: &mut Stack, store: &mut Store, dicts: &Dicts) -> Result<(), OpFault>
-    ensures answers { Answers (def_row stack.old store.old dicts.now) result (record { operands = stack.old; store = store.old }) (record { operands = stack.new; store = store.new }) }
+    ensures answers { Answers (def_row stack.old store.old dicts.now) result
+        (record { operands = stack.old; store = store.old })
+        (record { operands = stack.new; store = store.new }) }
     ensures refused { TellsRefusal (def_row stack.old store.old dicts.now) result }
 {
     let Some((value, key)) = stack.top_two() else {
@@ -101,7 +103,9 @@ pub(crate) fn define(
     value: Obj,
 ) -> Result<(), OpFault>
     requires { n ≤ length stack.old }
-    ensures answers { Answers (define_row store.old dict key value (drop n stack.old)) result (record { operands = stack.old; store = store.old }) (record { operands = stack.new; store = store.new }) }
+    ensures answers { Answers (define_row store.old dict key value (drop n stack.old)) result
+        (record { operands = stack.old; store = store.old })
+        (record { operands = stack.new; store = store.new }) }
     ensures refused { TellsRefusal (define_row store.old dict key value (drop n stack.old)) result }
 {
     match key {
@@ -129,7 +133,9 @@ pub(crate) fn define(
 
 /// `begin`: a dictionary onto the dictionary stack.
 pub(crate) fn begin(stack: &mut Stack, dicts: &mut Dicts) -> Result<(), OpFault>
-    ensures answers { Answers (begin_row stack.old dicts.old) result (record { operands = stack.old; dicts = dicts.old }) (record { operands = stack.new; dicts = dicts.new }) }
+    ensures answers { Answers (begin_row stack.old dicts.old) result
+        (record { operands = stack.old; dicts = dicts.old })
+        (record { operands = stack.new; dicts = dicts.new }) }
     ensures never { result ≢ Err OpFault.NoMemory }
 {
     let Some(top) = stack.top() else {

@@ -75,7 +75,8 @@ pub(crate) fn get(stack: &mut Stack, store: &Store) -> Result<(), OpFault>
 
 fn get_at(stack: &mut Stack, store: &Store, i: Whole, span: Span) -> Result<(), OpFault>
     requires { 2 ≤ list_length stack.old }
-    ensures answers { Answers (or_range (place_of i span.len) (λ at. Goes (element store.now span at ∷ drop 2 stack.old))) result stack.old stack.new }
+    ensures answers { Answers (or_range (place_of i span.len)
+        (λ at. Goes (element store.now span at ∷ drop 2 stack.old))) result stack.old stack.new }
     ensures never { result ≢ Err OpFault.NoMemory }
 {
     let Some(at) = place_in(i, span.len) else {
@@ -89,7 +90,9 @@ fn get_at(stack: &mut Stack, store: &Store, i: Whole, span: Span) -> Result<(), 
 /// `put`: an element of an array, a byte of a string, or a value of a key of a dictionary.
 #[tactic(auto, using(crate::proofs::Putting::put_of_other))]
 pub(crate) fn put(stack: &mut Stack, store: &mut Store) -> Result<(), OpFault>
-    ensures answers { Answers (put_row stack.old store.old) result (record { operands = stack.old; store = store.old }) (record { operands = stack.new; store = store.new }) }
+    ensures answers { Answers (put_row stack.old store.old) result
+        (record { operands = stack.old; store = store.old })
+        (record { operands = stack.new; store = store.new }) }
     ensures refused { TellsRefusal (put_row stack.old store.old) result }
 {
     let Some((value, place, whole)) = stack.top_three() else {
@@ -123,7 +126,9 @@ fn put_element(
     mark: bool,
 ) -> Result<(), OpFault>
     requires { stack.old ≡ value ∷ place.now ∷ Obj.Array span mark ∷ drop 3 stack.old }
-    ensures answers { Answers (put_row stack.old store.old) result (record { operands = stack.old; store = store.old }) (record { operands = stack.new; store = store.new }) }
+    ensures answers { Answers (put_row stack.old store.old) result
+        (record { operands = stack.old; store = store.old })
+        (record { operands = stack.new; store = store.new }) }
     ensures never { result ≢ Err OpFault.NoMemory }
 {
     let Obj::Int(i) = place else {
@@ -146,7 +151,9 @@ fn put_byte(
     span: Span,
 ) -> Result<(), OpFault>
     requires { stack.old ≡ value.now ∷ place.now ∷ Obj.Text span ∷ drop 3 stack.old }
-    ensures answers { Answers (put_row stack.old store.old) result (record { operands = stack.old; store = store.old }) (record { operands = stack.new; store = store.new }) }
+    ensures answers { Answers (put_row stack.old store.old) result
+        (record { operands = stack.old; store = store.old })
+        (record { operands = stack.new; store = store.new }) }
     ensures never { result ≢ Err OpFault.NoMemory }
 {
     let (Obj::Int(byte), Obj::Int(i)) = (value, place) else {
@@ -173,7 +180,9 @@ fn put_value(
     dict: u32,
 ) -> Result<(), OpFault>
     requires { stack.old ≡ value ∷ key.now ∷ Obj.Dict dict ∷ drop 3 stack.old }
-    ensures answers { Answers (put_row stack.old store.old) result (record { operands = stack.old; store = store.old }) (record { operands = stack.new; store = store.new }) }
+    ensures answers { Answers (put_row stack.old store.old) result
+        (record { operands = stack.old; store = store.old })
+        (record { operands = stack.new; store = store.new }) }
     ensures refused { TellsRefusal (put_row stack.old store.old) result }
 {
     let key = store.key_of(key);

@@ -81,7 +81,9 @@ pub(crate) fn getinterval(stack: &mut Stack) -> Result<(), OpFault>
 /// `putinterval`: the elements of one array or string into another. Where the two overlap, the
 /// first is read whole before anything is written.
 pub(crate) fn putinterval(stack: &mut Stack, store: &mut Store) -> Result<(), OpFault>
-    ensures answers { Answers (putinterval_row stack.old store.old) result (record { operands = stack.old; store = store.old }) (record { operands = stack.new; store = store.new }) }
+    ensures answers { Answers (putinterval_row stack.old store.old) result
+        (record { operands = stack.old; store = store.old })
+        (record { operands = stack.new; store = store.new }) }
     ensures never { result ≢ Err OpFault.NoMemory }
 {
     let Some((from, at, to)) = stack.top_three() else {

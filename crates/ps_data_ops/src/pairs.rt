@@ -9,7 +9,9 @@ use ps_store::{Entries, Key, KeyFault, Obj, OpFault, Stack, Store};
 
 /// `>>`: a new dictionary of the pairs above the topmost mark.
 pub(crate) fn close_dict(stack: &mut Stack, store: &mut Store) -> Result<(), OpFault>
-    ensures answers { Answers (close_dict_row stack.old store.old) result (record { operands = stack.old; store = store.old }) (record { operands = stack.new; store = store.new }) }
+    ensures answers { Answers (close_dict_row stack.old store.old) result
+        (record { operands = stack.old; store = store.old })
+        (record { operands = stack.new; store = store.new }) }
     ensures refused { TellsRefusalBut PsName.LimitCheck (close_dict_row stack.old store.old) result }
 {
     match stack.depth_of_mark() {
@@ -23,7 +25,9 @@ pub(crate) fn close_dict(stack: &mut Stack, store: &mut Store) -> Result<(), OpF
 /// Its entries are put together first, so that a limit refuses them all and leaves the store.
 fn enclose(stack: &mut Stack, store: &mut Store, len: usize) -> Result<(), OpFault>
     requires { len < length stack.old }
-    ensures answers { Answers (closed_row len stack.old store.old) result (record { operands = stack.old; store = store.old }) (record { operands = stack.new; store = store.new }) }
+    ensures answers { Answers (closed_row len stack.old store.old) result
+        (record { operands = stack.old; store = store.old })
+        (record { operands = stack.new; store = store.new }) }
     ensures refused { TellsRefusalBut PsName.LimitCheck (closed_row len stack.old store.old) result }
 {
     if lacks_key(stack, store, len) {

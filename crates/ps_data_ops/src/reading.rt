@@ -16,7 +16,9 @@ pub(crate) fn readstring(
     store: &mut Store,
     file: &mut Scanner,
 ) -> Result<(), OpFault>
-    ensures answers { Answers (readstring_row stack.old store.old file.old) result (record { operands = stack.old; store = store.old; file = file.old }) (record { operands = stack.new; store = store.new; file = file.new }) }
+    ensures answers { Answers (readstring_row stack.old store.old file.old) result
+        (record { operands = stack.old; store = store.old; file = file.old })
+        (record { operands = stack.new; store = store.new; file = file.new }) }
     ensures refused { TellsRefusal (readstring_row stack.old store.old file.old) result }
 {
     let Some((text, source)) = stack.top_two() else {
@@ -43,7 +45,9 @@ pub(crate) fn readhexstring(
     store: &mut Store,
     file: &mut Scanner,
 ) -> Result<(), OpFault>
-    ensures answers { Answers (readhexstring_row stack.old store.old file.old) result (record { operands = stack.old; store = store.old; file = file.old }) (record { operands = stack.new; store = store.new; file = file.new }) }
+    ensures answers { Answers (readhexstring_row stack.old store.old file.old) result
+        (record { operands = stack.old; store = store.old; file = file.old })
+        (record { operands = stack.new; store = store.new; file = file.new }) }
     ensures refused { TellsRefusal (readhexstring_row stack.old store.old file.old) result }
 {
     let Some((text, source)) = stack.top_two() else {

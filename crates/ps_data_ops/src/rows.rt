@@ -28,11 +28,15 @@ pub fn run_data(
     dicts: &mut Dicts,
     file: &mut Scanner,
 ) -> Result<(), OpFault>
-    ensures answers { Answers (data_row op (record { operands = stack.old; store = store.old; dicts = dicts.old; file = file.old })) result
+    ensures answers { Answers (data_row op
+        (record { operands = stack.old; store = store.old; dicts = dicts.old; file = file.old })) result
         (record { operands = stack.old; store = store.old; dicts = dicts.old; file = file.old })
         (record { operands = stack.new; store = store.new; dicts = dicts.new; file = file.new }) }
-    ensures refused { op ≢ DataOp.CloseDict → TellsRefusal (data_row op (record { operands = stack.old; store = store.old; dicts = dicts.old; file = file.old })) result }
-    ensures refused_but_limit { TellsRefusalBut PsName.LimitCheck (data_row op (record { operands = stack.old; store = store.old; dicts = dicts.old; file = file.old })) result }
+    ensures refused { op ≢ DataOp.CloseDict →
+        TellsRefusal (data_row op
+        (record { operands = stack.old; store = store.old; dicts = dicts.old; file = file.old })) result }
+    ensures refused_but_limit { TellsRefusalBut PsName.LimitCheck (data_row op
+        (record { operands = stack.old; store = store.old; dicts = dicts.old; file = file.old })) result }
     ensures memory { result ≡ Err OpFault.NoMemory → takes_memory op ≡ true }
 {
     match op {
