@@ -57,8 +57,9 @@ impl Gfx {
         Ok(())
     }
 
-    /// Whether the page has room for one more mark of so many points.
-    fn has_room(&self, points: u64) -> bool
+    /// Whether the page has room for one more mark of so many points: it has fewer than 1,000,000
+    /// marks, and would have at most 4,194,304 points.
+    pub fn has_room(&self, points: u64) -> bool
         ensures { result ≡ has_room self.now points }
     {
         self.marks.items().len() < MARKS && points <= POINTS - self.points
