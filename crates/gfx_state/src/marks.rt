@@ -101,7 +101,8 @@ impl Gfx {
     fn add_shapes(&mut self, rule: Rule, shapes: Shapes, points: u64) -> Mem<()>
         requires points { points ≡ all_points shapes }
         requires room { has_room self.old points ≡ true }
-        ensures ok { OnOk result (self.new ≡ record self.old { marks = self.old.marks ++ mark_with self.old.state rule shapes ∷ [] }) }
+        ensures ok { OnOk result (self.new ≡
+            record self.old { marks = self.old.marks ++ mark_with self.old.state rule shapes ∷ [] }) }
         ensures err { OnErr result (self.new ≡ self.old) }
     {
         let mark = flat_mark(rule, shapes, &self.state, &self.no_clip)?;
