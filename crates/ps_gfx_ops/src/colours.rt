@@ -9,7 +9,9 @@ use ps_store::{Obj, OpFault, Stack, number};
 
 /// `currentgray`: the gray of the current colour.
 pub(crate) fn currentgray(stack: &mut Stack, gfx: &mut Gfx) -> Result<(), OpFault>
-    ensures answers { Answers (currentgray_row stack.old gfx.old) result (record { operands = stack.old; graphics = gfx.old }) (record { operands = stack.new; graphics = gfx.new }) }
+    ensures answers { Answers (currentgray_row stack.old gfx.old) result
+        (record { operands = stack.old; graphics = gfx.old })
+        (record { operands = stack.new; graphics = gfx.new }) }
     ensures never { result ≢ Err OpFault.NoMemory }
 {
     match stack.push(Obj::Real(gfx.gray())) {
@@ -20,7 +22,9 @@ pub(crate) fn currentgray(stack: &mut Stack, gfx: &mut Gfx) -> Result<(), OpFaul
 
 /// `setgray`: DeviceGray and a colour of it.
 pub(crate) fn setgray(stack: &mut Stack, gfx: &mut Gfx) -> Result<(), OpFault>
-    ensures answers { Answers (setgray_row stack.old gfx.old) result (record { operands = stack.old; graphics = gfx.old }) (record { operands = stack.new; graphics = gfx.new }) }
+    ensures answers { Answers (setgray_row stack.old gfx.old) result
+        (record { operands = stack.old; graphics = gfx.old })
+        (record { operands = stack.new; graphics = gfx.new }) }
     ensures never { result ≢ Err OpFault.NoMemory }
 {
     let Some(gray) = stack.top() else {
@@ -37,7 +41,9 @@ pub(crate) fn setgray(stack: &mut Stack, gfx: &mut Gfx) -> Result<(), OpFault>
 
 /// `setrgbcolor`: DeviceRGB and a colour of it.
 pub(crate) fn setrgbcolor(stack: &mut Stack, gfx: &mut Gfx) -> Result<(), OpFault>
-    ensures answers { Answers (setrgbcolor_row stack.old gfx.old) result (record { operands = stack.old; graphics = gfx.old }) (record { operands = stack.new; graphics = gfx.new }) }
+    ensures answers { Answers (setrgbcolor_row stack.old gfx.old) result
+        (record { operands = stack.old; graphics = gfx.old })
+        (record { operands = stack.new; graphics = gfx.new }) }
     ensures never { result ≢ Err OpFault.NoMemory }
 {
     let Some((blue, green, red)) = stack.top_three() else {
@@ -54,7 +60,9 @@ pub(crate) fn setrgbcolor(stack: &mut Stack, gfx: &mut Gfx) -> Result<(), OpFaul
 
 /// `setcmykcolor`: DeviceCMYK and a colour of it.
 pub(crate) fn setcmykcolor(stack: &mut Stack, gfx: &mut Gfx) -> Result<(), OpFault>
-    ensures answers { Answers (setcmykcolor_row stack.old gfx.old) result (record { operands = stack.old; graphics = gfx.old }) (record { operands = stack.new; graphics = gfx.new }) }
+    ensures answers { Answers (setcmykcolor_row stack.old gfx.old) result
+        (record { operands = stack.old; graphics = gfx.old })
+        (record { operands = stack.new; graphics = gfx.new }) }
     ensures never { result ≢ Err OpFault.NoMemory }
 {
     let Some((black, yellow, magenta, cyan)) = stack.top_four() else {
