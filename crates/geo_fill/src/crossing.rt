@@ -162,5 +162,6 @@ fn is_right_of(line: &Line, col: u32) -> bool
     requires { unsigned_abs line.now.rise < 2 ^ 46 }
     ensures { result ≡ int_le line.now.reach (centre col *ℤ line.now.rise) }
 {
-    line.reach.is_at_most(product_of_differences(centre_of(col), line.rise))
+    line.reach
+        .is_at_most(product_of_differences(centre_of(col), line.rise))
 }
