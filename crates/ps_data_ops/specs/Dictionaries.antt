@@ -2,11 +2,14 @@
 -- 8.2). Own rules: names, strings, numbers and booleans are keys; a string of over 127 bytes is no
 -- name, so what defines it is refused by limitcheck, and what looks it up doesn't find it;
 -- dictionary 0 is systemdict and can't be written.
-use Rattle.std.specs.Prelude.{ℕ, pos, ◌+◌, ◌%◌, ◌==◌, ◌||◌, Bool, true, false, List, [], ◌∷◌, Option, Some, None, Result, Ok, Err, length, reverse, take, drop, nat_le, nat_lt, if◌then◌else◌}
+use Rattle.std.specs.Prelude.{◌≡◌, ◌≢◌, ℕ, pos, ◌+◌, ◌%◌, ◌==◌, ◌||◌, Bool, true, false, List, [], ◌∷◌, Option, Some, None, Result, Ok, Err, length, reverse, take, drop, nat_le, nat_lt, if◌then◌else◌}
 use Rattle.std.specs.Option.{is_some}
 use Rattle.std.specs.List.{position_from}
 use Rattle.indexmap.specs.IndexMap.{insert_entry}
+use Rattle.press_fault.specs.declared.names.PsName.{PsName}
 use Rattle.press_fault.specs.declared.names.PsName.TheVariants.{StackUnderflow, StackOverflow, TypeCheck, RangeCheck, Undefined, LimitCheck, InvalidAccess, DictStackOverflow, DictStackUnderflow}
+use Rattle.ps_store.specs.declared.fault.OpFault.{OpFault}
+use Rattle.ps_store.specs.declared.fault.OpFault.TheVariants.{Ps}
 use Rattle.ps_store.specs.declared.key.Key.{Key}
 use Rattle.ps_store.specs.declared.key.KeyFault.{KeyFault}
 use Rattle.ps_store.specs.declared.key.KeyFault.TheVariants.{NotAKey, TooLong}
@@ -160,3 +163,8 @@ closed_row n operands s =
 -- `>>`: a new dictionary of the pairs above the topmost mark
 abbrev pub close_dict_row : List Obj → Kept → Outcome Desk
 close_dict_row operands s = or_unmatched (position_from is_mark 0 operands) (λ n. closed_row n operands s)
+
+-- Each refusal but this one is told as what it is. Own rule: a limit that refuses `>>` is known once its entries are put together,
+-- which takes memory.
+abbrev pub TellsRefusalBut : {S A : Type 0} → PsName → Outcome S → Result A OpFault → Type 0
+TellsRefusalBut untold outcome result = (name : PsName) → name ≢ untold → outcome ≡ Refuses name → result ≡ Err (Ps name)

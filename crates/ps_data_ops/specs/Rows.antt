@@ -1,6 +1,6 @@
 -- What each data operator does (PostScript Language Reference, third edition, 8.2 Operator Details):
 -- its row stands with its kind, over just what it changes.
-use Rattle.std.specs.Prelude.{ℕ, true, false, List}
+use Rattle.std.specs.Prelude.{ℕ, Bool, true, false, List}
 use Rattle.ps_scan.specs.Place.{Place}
 use Rattle.ps_store.specs.declared.oper.DataOp.{DataOp}
 use Rattle.ps_store.specs.declared.oper.DataOp.TheVariants.{True, False, Null, Array, String, Dict, CloseArray, CloseDict, Length, Get, Put, Getinterval, Putinterval, Aload, Astore, Begin, End, Def, Load, Known, Where, Currentdict, Systemdict, Userdict, Cvn, Cvx, Cvlit, Xcheck, «Type» as TypeOf, Currentfile, Readstring, Readhexstring}
@@ -79,3 +79,16 @@ data_row TypeOf w = within (with_operands w) (changed type_name w.operands)
 data_row Currentfile w = within (with_operands w) (pushed File w.operands)
 data_row Readstring w = within (with_reader w) (readstring_row w.operands w.store w.file)
 data_row Readhexstring w = within (with_reader w) (readhexstring_row w.operands w.store w.file)
+
+-- the operators that may find no memory: they make a string, an array or a dictionary, give a key a value, or read bytes
+abbrev pub takes_memory : DataOp → Bool
+takes_memory Array = true
+takes_memory String = true
+takes_memory Dict = true
+takes_memory CloseArray = true
+takes_memory CloseDict = true
+takes_memory Put = true
+takes_memory Def = true
+takes_memory Readstring = true
+takes_memory Readhexstring = true
+takes_memory op = false

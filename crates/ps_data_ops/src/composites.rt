@@ -1,6 +1,6 @@
 //! New strings, arrays and dictionaries, and what moves many elements of them.
-ghost use Rattle.std.specs.Prelude.{◌≡◌, ◌<◌, length};
-ghost use Rattle.ps_store.specs.Outcome.{Answers};
+ghost use Rattle.std.specs.Prelude.{◌≡◌, ◌≢◌, ◌<◌, length, Err};
+ghost use Rattle.ps_store.specs.Outcome.{Answers, TellsRefusal};
 ghost use Rattle.ps_data_ops.specs.Composites.{count_of, refusal_of, array_row, string_row, dict_row, gathered_row, close_array_row, aload_row, astore_row};
 
 use press_fault::{Grow, PsName};
@@ -27,7 +27,10 @@ pub(crate) fn refusal(fault: Grow) -> OpFault
 
 /// `array`: a new array of nulls.
 pub(crate) fn array(stack: &mut Stack, store: &mut Store) -> Result<(), OpFault>
-    ensures { Answers (array_row stack.old store.old) result (record { operands = stack.old; store = store.old }) (record { operands = stack.new; store = store.new }) }
+    ensures answers { Answers (array_row stack.old store.old) result
+        (record { operands = stack.old; store = store.old })
+        (record { operands = stack.new; store = store.new }) }
+    ensures refused { TellsRefusal (array_row stack.old store.old) result }
 {
     let Some(top) = stack.top() else {
         return Err(OpFault::Ps(PsName::StackUnderflow));
@@ -49,7 +52,10 @@ pub(crate) fn array(stack: &mut Stack, store: &mut Store) -> Result<(), OpFault>
 
 /// `string`: a new string of zero bytes.
 pub(crate) fn string(stack: &mut Stack, store: &mut Store) -> Result<(), OpFault>
-    ensures { Answers (string_row stack.old store.old) result (record { operands = stack.old; store = store.old }) (record { operands = stack.new; store = store.new }) }
+    ensures answers { Answers (string_row stack.old store.old) result
+        (record { operands = stack.old; store = store.old })
+        (record { operands = stack.new; store = store.new }) }
+    ensures refused { TellsRefusal (string_row stack.old store.old) result }
 {
     let Some(top) = stack.top() else {
         return Err(OpFault::Ps(PsName::StackUnderflow));
@@ -71,7 +77,10 @@ pub(crate) fn string(stack: &mut Stack, store: &mut Store) -> Result<(), OpFault
 
 /// `dict`: a new empty dictionary, which may grow past the size that is asked.
 pub(crate) fn dict(stack: &mut Stack, store: &mut Store) -> Result<(), OpFault>
-    ensures { Answers (dict_row stack.old store.old) result (record { operands = stack.old; store = store.old }) (record { operands = stack.new; store = store.new }) }
+    ensures answers { Answers (dict_row stack.old store.old) result
+        (record { operands = stack.old; store = store.old })
+        (record { operands = stack.new; store = store.new }) }
+    ensures refused { TellsRefusal (dict_row stack.old store.old) result }
 {
     let Some(top) = stack.top() else {
         return Err(OpFault::Ps(PsName::StackUnderflow));
@@ -93,7 +102,10 @@ pub(crate) fn dict(stack: &mut Stack, store: &mut Store) -> Result<(), OpFault>
 
 /// `]`: a new array of the operands above the topmost mark.
 pub(crate) fn close_array(stack: &mut Stack, store: &mut Store) -> Result<(), OpFault>
-    ensures { Answers (close_array_row stack.old store.old) result (record { operands = stack.old; store = store.old }) (record { operands = stack.new; store = store.new }) }
+    ensures answers { Answers (close_array_row stack.old store.old) result
+        (record { operands = stack.old; store = store.old })
+        (record { operands = stack.new; store = store.new }) }
+    ensures refused { TellsRefusal (close_array_row stack.old store.old) result }
 {
     match stack.depth_of_mark() {
         Some(len) => gather(stack, store, len),
@@ -104,7 +116,10 @@ pub(crate) fn close_array(stack: &mut Stack, store: &mut Store) -> Result<(), Op
 /// Makes an array of the top `len` operands, in place of these and the mark below them.
 fn gather(stack: &mut Stack, store: &mut Store, len: usize) -> Result<(), OpFault>
     requires { len < length stack.old }
-    ensures { Answers (gathered_row len stack.old store.old) result (record { operands = stack.old; store = store.old }) (record { operands = stack.new; store = store.new }) }
+    ensures answers { Answers (gathered_row len stack.old store.old) result
+        (record { operands = stack.old; store = store.old })
+        (record { operands = stack.new; store = store.new }) }
+    ensures refused { TellsRefusal (gathered_row len stack.old store.old) result }
 {
     let _held = stack.len();
     match store.new_array(len as u32) {
@@ -119,7 +134,8 @@ fn gather(stack: &mut Stack, store: &mut Store, len: usize) -> Result<(), OpFaul
 
 /// `aload`: the elements of an array, in order, and the array.
 pub(crate) fn aload(stack: &mut Stack, store: &Store) -> Result<(), OpFault>
-    ensures { Answers (aload_row stack.old store.now) result stack.old stack.new }
+    ensures answers { Answers (aload_row stack.old store.now) result stack.old stack.new }
+    ensures never { result ≢ Err OpFault.NoMemory }
 {
     let Some(top) = stack.top() else {
         return Err(OpFault::Ps(PsName::StackUnderflow));
@@ -139,7 +155,10 @@ pub(crate) fn aload(stack: &mut Stack, store: &Store) -> Result<(), OpFault>
 
 /// `astore`: as many operands as the array has elements become these.
 pub(crate) fn astore(stack: &mut Stack, store: &mut Store) -> Result<(), OpFault>
-    ensures { Answers (astore_row stack.old store.old) result (record { operands = stack.old; store = store.old }) (record { operands = stack.new; store = store.new }) }
+    ensures answers { Answers (astore_row stack.old store.old) result
+        (record { operands = stack.old; store = store.old })
+        (record { operands = stack.new; store = store.new }) }
+    ensures never { result ≢ Err OpFault.NoMemory }
 {
     let Some(top) = stack.top() else {
         return Err(OpFault::Ps(PsName::StackUnderflow));

@@ -1,6 +1,6 @@
 //! Operators on dictionaries and on the dictionary stack.
-ghost use Rattle.std.specs.Prelude.{◌≡◌, ◌≤◌, length, drop};
-ghost use Rattle.ps_store.specs.Outcome.{Answers, pushed};
+ghost use Rattle.std.specs.Prelude.{◌≡◌, ◌≢◌, ◌≤◌, length, drop, Err};
+ghost use Rattle.ps_store.specs.Outcome.{Answers, TellsRefusal, pushed};
 ghost use Rattle.ps_data_ops.specs.Dictionaries.{define_row, def_row, load_row, known_row, where_row, begin_row, end_row, current, home_row};
 
 use crate::composites::refusal;
@@ -11,7 +11,8 @@ use ps_store::{Dicts, Key, KeyFault, MAX_OPERANDS, Obj, OpFault, SYSTEMDICT, Sta
 
 /// `load`: the value in the topmost dictionary that has the key.
 pub(crate) fn load(stack: &mut Stack, store: &Store, dicts: &Dicts) -> Result<(), OpFault>
-    ensures { Answers (load_row stack.old store.now dicts.now) result stack.old stack.new }
+    ensures answers { Answers (load_row stack.old store.now dicts.now) result stack.old stack.new }
+    ensures never { result ≢ Err OpFault.NoMemory }
 {
     let Some(key) = stack.top() else {
         return Err(OpFault::Ps(PsName::StackUnderflow));
@@ -25,7 +26,8 @@ pub(crate) fn load(stack: &mut Stack, store: &Store, dicts: &Dicts) -> Result<()
 
 /// `known`: whether that one dictionary has the key.
 pub(crate) fn known(stack: &mut Stack, store: &Store) -> Result<(), OpFault>
-    ensures { Answers (known_row stack.old store.now) result stack.old stack.new }
+    ensures answers { Answers (known_row stack.old store.now) result stack.old stack.new }
+    ensures never { result ≢ Err OpFault.NoMemory }
 {
     let Some((key, whole)) = stack.top_two() else {
         return Err(OpFault::Ps(PsName::StackUnderflow));
@@ -44,7 +46,8 @@ pub(crate) fn known(stack: &mut Stack, store: &Store) -> Result<(), OpFault>
 
 /// `where`: the topmost dictionary that has the key.
 pub(crate) fn where_(stack: &mut Stack, store: &Store, dicts: &Dicts) -> Result<(), OpFault>
-    ensures { Answers (where_row stack.old store.now dicts.now) result stack.old stack.new }
+    ensures answers { Answers (where_row stack.old store.now dicts.now) result stack.old stack.new }
+    ensures never { result ≢ Err OpFault.NoMemory }
 {
     let Some(key) = stack.top() else {
         return Err(OpFault::Ps(PsName::StackUnderflow));
@@ -62,7 +65,8 @@ pub(crate) fn where_(stack: &mut Stack, store: &Store, dicts: &Dicts) -> Result<
 /// Puts the dictionary that has a key, and whether there is one, in the key's place.
 fn give_home(stack: &mut Stack, home: Option<u32>) -> Result<(), OpFault>
     requires { 1 ≤ length stack.old }
-    ensures { Answers (home_row home (drop 1 stack.old)) result stack.old stack.new }
+    ensures answers { Answers (home_row home (drop 1 stack.old)) result stack.old stack.new }
+    ensures never { result ≢ Err OpFault.NoMemory }
 {
     let Some(dict) = home else {
         stack.replace(1, Obj::Bool(false));
@@ -77,7 +81,10 @@ fn give_home(stack: &mut Stack, home: Option<u32>) -> Result<(), OpFault>
 
 /// `def`: a value of a key of the dictionary on top.
 pub(crate) fn def(stack: &mut Stack, store: &mut Store, dicts: &Dicts) -> Result<(), OpFault>
-    ensures { Answers (def_row stack.old store.old dicts.now) result (record { operands = stack.old; store = store.old }) (record { operands = stack.new; store = store.new }) }
+    ensures answers { Answers (def_row stack.old store.old dicts.now) result
+        (record { operands = stack.old; store = store.old })
+        (record { operands = stack.new; store = store.new }) }
+    ensures refused { TellsRefusal (def_row stack.old store.old dicts.now) result }
 {
     let Some((value, key)) = stack.top_two() else {
         return Err(OpFault::Ps(PsName::StackUnderflow));
@@ -96,7 +103,10 @@ pub(crate) fn define(
     value: Obj,
 ) -> Result<(), OpFault>
     requires { n ≤ length stack.old }
-    ensures { Answers (define_row store.old dict key value (drop n stack.old)) result (record { operands = stack.old; store = store.old }) (record { operands = stack.new; store = store.new }) }
+    ensures answers { Answers (define_row store.old dict key value (drop n stack.old)) result
+        (record { operands = stack.old; store = store.old })
+        (record { operands = stack.new; store = store.new }) }
+    ensures refused { TellsRefusal (define_row store.old dict key value (drop n stack.old)) result }
 {
     match key {
         Ok(key) => {
@@ -123,7 +133,10 @@ pub(crate) fn define(
 
 /// `begin`: a dictionary onto the dictionary stack.
 pub(crate) fn begin(stack: &mut Stack, dicts: &mut Dicts) -> Result<(), OpFault>
-    ensures { Answers (begin_row stack.old dicts.old) result (record { operands = stack.old; dicts = dicts.old }) (record { operands = stack.new; dicts = dicts.new }) }
+    ensures answers { Answers (begin_row stack.old dicts.old) result
+        (record { operands = stack.old; dicts = dicts.old })
+        (record { operands = stack.new; dicts = dicts.new }) }
+    ensures never { result ≢ Err OpFault.NoMemory }
 {
     let Some(top) = stack.top() else {
         return Err(OpFault::Ps(PsName::StackUnderflow));
@@ -142,7 +155,8 @@ pub(crate) fn begin(stack: &mut Stack, dicts: &mut Dicts) -> Result<(), OpFault>
 
 /// `end`: the dictionary on top away. `systemdict` and `userdict` stay.
 pub(crate) fn end(dicts: &mut Dicts) -> Result<(), OpFault>
-    ensures { Answers (end_row dicts.old) result dicts.old dicts.new }
+    ensures answers { Answers (end_row dicts.old) result dicts.old dicts.new }
+    ensures never { result ≢ Err OpFault.NoMemory }
 {
     match dicts.pop() {
         Ok(_) => Ok(()),
@@ -152,7 +166,8 @@ pub(crate) fn end(dicts: &mut Dicts) -> Result<(), OpFault>
 
 /// `currentdict`: the dictionary on top of the dictionary stack.
 pub(crate) fn currentdict(stack: &mut Stack, dicts: &Dicts) -> Result<(), OpFault>
-    ensures { Answers (pushed (Obj.Dict (current dicts.now)) stack.old) result stack.old stack.new }
+    ensures answers { Answers (pushed (Obj.Dict (current dicts.now)) stack.old) result stack.old stack.new }
+    ensures never { result ≢ Err OpFault.NoMemory }
 {
     push(stack, Obj::Dict(dicts.top()))
 }

@@ -1,7 +1,7 @@
 //! `length`, `get` and `put`.
-ghost use Rattle.std.specs.Prelude.{◌≡◌, ◌≤◌, ◌∷◌, length as list_length, drop};
+ghost use Rattle.std.specs.Prelude.{◌≡◌, ◌≢◌, ◌≤◌, ◌∷◌, length as list_length, drop, Err};
 ghost use Rattle.std.specs.Option.{option_copied};
-ghost use Rattle.ps_store.specs.Outcome.{Answers, Goes, or_range};
+ghost use Rattle.ps_store.specs.Outcome.{Answers, TellsRefusal, Goes, or_range};
 ghost use Rattle.ps_store.specs.Numbers.{place_of};
 ghost use Rattle.ps_store.specs.Store.{element};
 ghost use Rattle.ps_data_ops.specs.Dictionaries.{length_row, got, get_row, put_row};
@@ -13,7 +13,8 @@ use ps_store::{KeyFault, Obj, OpFault, Span, Stack, Store, place_in};
 
 /// `length`: of a string, an array, a dictionary or a name.
 pub(crate) fn length(stack: &mut Stack, store: &Store) -> Result<(), OpFault>
-    ensures { Answers (length_row stack.old store.now) result stack.old stack.new }
+    ensures answers { Answers (length_row stack.old store.now) result stack.old stack.new }
+    ensures never { result ≢ Err OpFault.NoMemory }
 {
     let Some(top) = stack.top() else {
         return Err(OpFault::Ps(PsName::StackUnderflow));
@@ -33,7 +34,8 @@ pub(crate) fn length(stack: &mut Stack, store: &Store) -> Result<(), OpFault>
 pub(crate) fn give(stack: &mut Stack, n: usize, value: Option<&Obj>) -> Result<(), OpFault>
     requires some { 1 ≤ n }
     requires held { n ≤ list_length stack.old }
-    ensures { Answers (got (option_copied value.entry) (drop n stack.old)) result stack.old stack.new }
+    ensures answers { Answers (got (option_copied value.entry) (drop n stack.old)) result stack.old stack.new }
+    ensures never { result ≢ Err OpFault.NoMemory }
 {
     let Some(value) = value else {
         return Err(OpFault::Ps(PsName::Undefined));
@@ -44,7 +46,8 @@ pub(crate) fn give(stack: &mut Stack, n: usize, value: Option<&Obj>) -> Result<(
 
 /// `get`: an element of an array, a byte of a string, or the value of a key of a dictionary.
 pub(crate) fn get(stack: &mut Stack, store: &Store) -> Result<(), OpFault>
-    ensures { Answers (get_row stack.old store.now) result stack.old stack.new }
+    ensures answers { Answers (get_row stack.old store.now) result stack.old stack.new }
+    ensures never { result ≢ Err OpFault.NoMemory }
 {
     let Some((place, whole)) = stack.top_two() else {
         return Err(OpFault::Ps(PsName::StackUnderflow));
@@ -72,7 +75,9 @@ pub(crate) fn get(stack: &mut Stack, store: &Store) -> Result<(), OpFault>
 
 fn get_at(stack: &mut Stack, store: &Store, i: Whole, span: Span) -> Result<(), OpFault>
     requires { 2 ≤ list_length stack.old }
-    ensures { Answers (or_range (place_of i span.len) (λ at. Goes (element store.now span at ∷ drop 2 stack.old))) result stack.old stack.new }
+    ensures answers { Answers (or_range (place_of i span.len)
+        (λ at. Goes (element store.now span at ∷ drop 2 stack.old))) result stack.old stack.new }
+    ensures never { result ≢ Err OpFault.NoMemory }
 {
     let Some(at) = place_in(i, span.len) else {
         return Err(OpFault::Ps(PsName::RangeCheck));
@@ -83,36 +88,103 @@ fn get_at(stack: &mut Stack, store: &Store, i: Whole, span: Span) -> Result<(), 
 }
 
 /// `put`: an element of an array, a byte of a string, or a value of a key of a dictionary.
+#[tactic(auto, using(crate::proofs::Putting::put_of_other))]
 pub(crate) fn put(stack: &mut Stack, store: &mut Store) -> Result<(), OpFault>
-    ensures { Answers (put_row stack.old store.old) result (record { operands = stack.old; store = store.old }) (record { operands = stack.new; store = store.new }) }
+    ensures answers { Answers (put_row stack.old store.old) result
+        (record { operands = stack.old; store = store.old })
+        (record { operands = stack.new; store = store.new }) }
+    ensures refused { TellsRefusal (put_row stack.old store.old) result }
 {
     let Some((value, place, whole)) = stack.top_three() else {
         return Err(OpFault::Ps(PsName::StackUnderflow));
     };
-    match (value, place, whole) {
-        (value, Obj::Int(i), Obj::Array(span, _)) => {
-            let Some(at) = place_in(*i, span.len) else {
-                return Err(OpFault::Ps(PsName::RangeCheck));
-            };
-            store.put(*span, at, *value);
-            stack.drop_top(3);
-            Ok(())
+    let (value, place) = (*value, *place);
+    match whole {
+        Obj::Array(span, mark) => {
+            let (span, mark) = (*span, *mark);
+            put_element(stack, store, value, &place, span, mark)
         }
-        (Obj::Int(byte), Obj::Int(i), Obj::Text(span)) => {
-            let Some(at) = place_in(*i, span.len) else {
-                return Err(OpFault::Ps(PsName::RangeCheck));
-            };
-            if place_in(*byte, 256).is_none() {
-                return Err(OpFault::Ps(PsName::RangeCheck));
-            }
-            store.put(*span, at, Obj::Int(*byte));
-            stack.drop_top(3);
-            Ok(())
+        Obj::Text(span) => {
+            let span = *span;
+            put_byte(stack, store, &value, &place, span)
         }
-        (value, key, Obj::Dict(dict)) => {
-            let (dict, key, value) = (*dict, store.key_of(key), *value);
-            define(stack, store, 3, dict, key, value)
+        Obj::Dict(dict) => {
+            let dict = *dict;
+            put_value(stack, store, value, &place, dict)
         }
         _ => Err(OpFault::Ps(PsName::TypeCheck)),
     }
+}
+
+/// `put` of an array.
+fn put_element(
+    stack: &mut Stack,
+    store: &mut Store,
+    value: Obj,
+    place: &Obj,
+    span: Span,
+    mark: bool,
+) -> Result<(), OpFault>
+    requires { stack.old ≡ value ∷ place.now ∷ Obj.Array span mark ∷ drop 3 stack.old }
+    ensures answers { Answers (put_row stack.old store.old) result
+        (record { operands = stack.old; store = store.old })
+        (record { operands = stack.new; store = store.new }) }
+    ensures never { result ≢ Err OpFault.NoMemory }
+{
+    let Obj::Int(i) = place else {
+        return Err(OpFault::Ps(PsName::TypeCheck));
+    };
+    let Some(at) = place_in(*i, span.len) else {
+        return Err(OpFault::Ps(PsName::RangeCheck));
+    };
+    store.put(span, at, value);
+    stack.drop_top(3);
+    Ok(())
+}
+
+/// `put` of a string. What is no integer is no byte.
+fn put_byte(
+    stack: &mut Stack,
+    store: &mut Store,
+    value: &Obj,
+    place: &Obj,
+    span: Span,
+) -> Result<(), OpFault>
+    requires { stack.old ≡ value.now ∷ place.now ∷ Obj.Text span ∷ drop 3 stack.old }
+    ensures answers { Answers (put_row stack.old store.old) result
+        (record { operands = stack.old; store = store.old })
+        (record { operands = stack.new; store = store.new }) }
+    ensures never { result ≢ Err OpFault.NoMemory }
+{
+    let (Obj::Int(byte), Obj::Int(i)) = (value, place) else {
+        return Err(OpFault::Ps(PsName::TypeCheck));
+    };
+    let Some(at) = place_in(*i, span.len) else {
+        return Err(OpFault::Ps(PsName::RangeCheck));
+    };
+    if place_in(*byte, 256).is_none() {
+        return Err(OpFault::Ps(PsName::RangeCheck));
+    }
+    store.put(span, at, *value);
+    stack.drop_top(3);
+    Ok(())
+}
+
+/// `put` of a dictionary.
+#[tactic(auto, using(crate::proofs::Putting::put_of_dict))]
+fn put_value(
+    stack: &mut Stack,
+    store: &mut Store,
+    value: Obj,
+    key: &Obj,
+    dict: u32,
+) -> Result<(), OpFault>
+    requires { stack.old ≡ value ∷ key.now ∷ Obj.Dict dict ∷ drop 3 stack.old }
+    ensures answers { Answers (put_row stack.old store.old) result
+        (record { operands = stack.old; store = store.old })
+        (record { operands = stack.new; store = store.new }) }
+    ensures refused { TellsRefusal (put_row stack.old store.old) result }
+{
+    let key = store.key_of(key);
+    define(stack, store, 3, dict, key, value)
 }

@@ -1,5 +1,5 @@
 //! Parts of strings and arrays.
-ghost use Rattle.std.specs.Prelude.{◌≡◌, ◌≤◌, ◌<◌, ◌+◌, IfSome};
+ghost use Rattle.std.specs.Prelude.{◌≡◌, ◌≢◌, ◌≤◌, ◌<◌, ◌+◌, Err, IfSome};
 ghost use Rattle.ps_store.specs.Outcome.{Answers};
 ghost use Rattle.ps_data_ops.specs.Composites.{begin_of, interval_of, part_of, getinterval_row, putinterval_row};
 
@@ -51,7 +51,8 @@ pub(crate) fn part(span: Span, at: u32, len: u32) -> Span
 
 /// `getinterval`: a part of an array or a string, which it shares.
 pub(crate) fn getinterval(stack: &mut Stack) -> Result<(), OpFault>
-    ensures { Answers (getinterval_row stack.old) result stack.old stack.new }
+    ensures answers { Answers (getinterval_row stack.old) result stack.old stack.new }
+    ensures never { result ≢ Err OpFault.NoMemory }
 {
     let Some((count, at, whole)) = stack.top_three() else {
         return Err(OpFault::Ps(PsName::StackUnderflow));
@@ -80,7 +81,10 @@ pub(crate) fn getinterval(stack: &mut Stack) -> Result<(), OpFault>
 /// `putinterval`: the elements of one array or string into another. Where the two overlap, the
 /// first is read whole before anything is written.
 pub(crate) fn putinterval(stack: &mut Stack, store: &mut Store) -> Result<(), OpFault>
-    ensures { Answers (putinterval_row stack.old store.old) result (record { operands = stack.old; store = store.old }) (record { operands = stack.new; store = store.new }) }
+    ensures answers { Answers (putinterval_row stack.old store.old) result
+        (record { operands = stack.old; store = store.old })
+        (record { operands = stack.new; store = store.new }) }
+    ensures never { result ≢ Err OpFault.NoMemory }
 {
     let Some((from, at, to)) = stack.top_three() else {
         return Err(OpFault::Ps(PsName::StackUnderflow));

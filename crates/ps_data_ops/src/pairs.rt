@@ -1,7 +1,7 @@
 //! `>>`: a dictionary of the pairs above a mark.
 ghost use Rattle.std.specs.Prelude.{◌≡◌, ◌≤◌, ◌<◌, [], length, reverse, take, IfOk};
 ghost use Rattle.ps_store.specs.Outcome.{Answers};
-ghost use Rattle.ps_data_ops.specs.Dictionaries.{close_dict_row, closed_row, is_no_key, lacks_key, entered};
+ghost use Rattle.ps_data_ops.specs.Dictionaries.{TellsRefusalBut, close_dict_row, closed_row, is_no_key, lacks_key, entered};
 
 use crate::composites::refusal;
 use press_fault::{Mem, PsName};
@@ -9,7 +9,10 @@ use ps_store::{Entries, Key, KeyFault, Obj, OpFault, Stack, Store};
 
 /// `>>`: a new dictionary of the pairs above the topmost mark.
 pub(crate) fn close_dict(stack: &mut Stack, store: &mut Store) -> Result<(), OpFault>
-    ensures { Answers (close_dict_row stack.old store.old) result (record { operands = stack.old; store = store.old }) (record { operands = stack.new; store = store.new }) }
+    ensures answers { Answers (close_dict_row stack.old store.old) result
+        (record { operands = stack.old; store = store.old })
+        (record { operands = stack.new; store = store.new }) }
+    ensures refused { TellsRefusalBut PsName.LimitCheck (close_dict_row stack.old store.old) result }
 {
     match stack.depth_of_mark() {
         Some(len) => enclose(stack, store, len),
@@ -22,7 +25,10 @@ pub(crate) fn close_dict(stack: &mut Stack, store: &mut Store) -> Result<(), OpF
 /// Its entries are put together first, so that a limit refuses them all and leaves the store.
 fn enclose(stack: &mut Stack, store: &mut Store, len: usize) -> Result<(), OpFault>
     requires { len < length stack.old }
-    ensures { Answers (closed_row len stack.old store.old) result (record { operands = stack.old; store = store.old }) (record { operands = stack.new; store = store.new }) }
+    ensures answers { Answers (closed_row len stack.old store.old) result
+        (record { operands = stack.old; store = store.old })
+        (record { operands = stack.new; store = store.new }) }
+    ensures refused { TellsRefusalBut PsName.LimitCheck (closed_row len stack.old store.old) result }
 {
     if lacks_key(stack, store, len) {
         return Err(OpFault::Ps(PsName::TypeCheck));

@@ -1,6 +1,6 @@
 //! Reading from the program's own text.
 ghost use Rattle.std.specs.Prelude.{◌≡◌, ◌≤◌, ◌∷◌, ◌==◌, length, take, drop};
-ghost use Rattle.ps_store.specs.Outcome.{Answers};
+ghost use Rattle.ps_store.specs.Outcome.{Answers, TellsRefusal};
 ghost use Rattle.ps_store.specs.Gathering.{with_elements, integers};
 ghost use Rattle.ps_data_ops.specs.Composites.{part_of};
 ghost use Rattle.ps_data_ops.specs.Reading.{readstring_row, readhexstring_row};
@@ -16,7 +16,10 @@ pub(crate) fn readstring(
     store: &mut Store,
     file: &mut Scanner,
 ) -> Result<(), OpFault>
-    ensures { Answers (readstring_row stack.old store.old file.old) result (record { operands = stack.old; store = store.old; file = file.old }) (record { operands = stack.new; store = store.new; file = file.new }) }
+    ensures answers { Answers (readstring_row stack.old store.old file.old) result
+        (record { operands = stack.old; store = store.old; file = file.old })
+        (record { operands = stack.new; store = store.new; file = file.new }) }
+    ensures refused { TellsRefusal (readstring_row stack.old store.old file.old) result }
 {
     let Some((text, source)) = stack.top_two() else {
         return Err(OpFault::Ps(PsName::StackUnderflow));
@@ -42,7 +45,10 @@ pub(crate) fn readhexstring(
     store: &mut Store,
     file: &mut Scanner,
 ) -> Result<(), OpFault>
-    ensures { Answers (readhexstring_row stack.old store.old file.old) result (record { operands = stack.old; store = store.old; file = file.old }) (record { operands = stack.new; store = store.new; file = file.new }) }
+    ensures answers { Answers (readhexstring_row stack.old store.old file.old) result
+        (record { operands = stack.old; store = store.old; file = file.old })
+        (record { operands = stack.new; store = store.new; file = file.new }) }
+    ensures refused { TellsRefusal (readhexstring_row stack.old store.old file.old) result }
 {
     let Some((text, source)) = stack.top_two() else {
         return Err(OpFault::Ps(PsName::StackUnderflow));

@@ -1,6 +1,8 @@
 //! The call that does a data operator.
-ghost use Rattle.ps_store.specs.Outcome.{Answers};
-ghost use Rattle.ps_data_ops.specs.Rows.{data_row};
+ghost use Rattle.std.specs.Prelude.{◌≡◌, ◌≢◌, true, Err};
+ghost use Rattle.ps_store.specs.Outcome.{Answers, TellsRefusal};
+ghost use Rattle.ps_data_ops.specs.Dictionaries.{TellsRefusalBut};
+ghost use Rattle.ps_data_ops.specs.Rows.{data_row, takes_memory};
 
 use crate::composites::{aload, array, astore, close_array, dict, string};
 use crate::dictionaries::{begin, currentdict, def, end, known, load, where_};
@@ -9,14 +11,16 @@ use crate::intervals::{getinterval, putinterval};
 use crate::pairs::close_dict;
 use crate::reading::{readhexstring, readstring};
 use crate::values::{cvlit, cvn, cvx, push, type_, xcheck};
+use press_fault::PsName;
 use ps_scan::Scanner;
 use ps_store::{DataOp, Dicts, Obj, OpFault, SYSTEMDICT, Stack, Store, USERDICT};
 
 /// Does a data operator, exactly as its row says (PostScript Language Reference, third edition,
 /// 8.2 Operator Details). A refusal by an error of the language leaves the operands, the store,
 /// the dictionary stack and the place in the program as they were; after out of memory nothing
-/// is said of them.
-#[tactic(auto, using(crate::proofs::Within::answers_within), unfolding(crate::specs::Rows::data_row))]
+/// is said of them. Out of memory comes only of an operator that makes or grows something, and never in
+/// place of a refusal, but that `>>` may find no memory before it finds its limit.
+#[tactic(auto, using(crate::proofs::Within::answers_within, crate::proofs::Within::told, crate::proofs::Within::told_within), unfolding(crate::specs::Rows::data_row))]
 pub fn run_data(
     op: DataOp,
     stack: &mut Stack,
@@ -24,9 +28,16 @@ pub fn run_data(
     dicts: &mut Dicts,
     file: &mut Scanner,
 ) -> Result<(), OpFault>
-    ensures { Answers (data_row op (record { operands = stack.old; store = store.old; dicts = dicts.old; file = file.old })) result
+    ensures answers { Answers (data_row op
+        (record { operands = stack.old; store = store.old; dicts = dicts.old; file = file.old })) result
         (record { operands = stack.old; store = store.old; dicts = dicts.old; file = file.old })
         (record { operands = stack.new; store = store.new; dicts = dicts.new; file = file.new }) }
+    ensures refused { op ≢ DataOp.CloseDict →
+        TellsRefusal (data_row op
+        (record { operands = stack.old; store = store.old; dicts = dicts.old; file = file.old })) result }
+    ensures refused_but_limit { TellsRefusalBut PsName.LimitCheck (data_row op
+        (record { operands = stack.old; store = store.old; dicts = dicts.old; file = file.old })) result }
+    ensures memory { result ≡ Err OpFault.NoMemory → takes_memory op ≡ true }
 {
     match op {
         DataOp::True => push(stack, Obj::Bool(true)),

@@ -1,5 +1,5 @@
 //! Operators on single objects: their types and marks, and the constants.
-ghost use Rattle.std.specs.Prelude.{◌≡◌, ◌≤◌, length};
+ghost use Rattle.std.specs.Prelude.{◌≡◌, ◌≢◌, ◌≤◌, length, Err};
 ghost use Rattle.ps_store.specs.Outcome.{Answers, pushed};
 ghost use Rattle.ps_data_ops.specs.Values.{changed, executable, literal, is_executable, mark_of, type_name, type_of, cvn_row};
 
@@ -8,7 +8,8 @@ use ps_store::{Obj, OpFault, Stack, Store};
 
 /// Pushes an object, as `true`, `null` and `userdict` do.
 pub(crate) fn push(stack: &mut Stack, o: Obj) -> Result<(), OpFault>
-    ensures { Answers (pushed o stack.old) result stack.old stack.new }
+    ensures answers { Answers (pushed o stack.old) result stack.old stack.new }
+    ensures never { result ≢ Err OpFault.NoMemory }
 {
     match stack.push(o) {
         Ok(()) => Ok(()),
@@ -18,7 +19,8 @@ pub(crate) fn push(stack: &mut Stack, o: Obj) -> Result<(), OpFault>
 
 /// `cvx`: the top operand, marked as executable. Only names and arrays carry a mark.
 pub(crate) fn cvx(stack: &mut Stack) -> Result<(), OpFault>
-    ensures { Answers (changed executable stack.old) result stack.old stack.new }
+    ensures answers { Answers (changed executable stack.old) result stack.old stack.new }
+    ensures never { result ≢ Err OpFault.NoMemory }
 {
     let Some(top) = stack.top() else {
         return Err(OpFault::Ps(PsName::StackUnderflow));
@@ -30,7 +32,8 @@ pub(crate) fn cvx(stack: &mut Stack) -> Result<(), OpFault>
 
 /// `cvlit`: the top operand, marked as literal.
 pub(crate) fn cvlit(stack: &mut Stack) -> Result<(), OpFault>
-    ensures { Answers (changed literal stack.old) result stack.old stack.new }
+    ensures answers { Answers (changed literal stack.old) result stack.old stack.new }
+    ensures never { result ≢ Err OpFault.NoMemory }
 {
     let Some(top) = stack.top() else {
         return Err(OpFault::Ps(PsName::StackUnderflow));
@@ -42,7 +45,8 @@ pub(crate) fn cvlit(stack: &mut Stack) -> Result<(), OpFault>
 
 /// `xcheck`: whether the top operand is executable.
 pub(crate) fn xcheck(stack: &mut Stack) -> Result<(), OpFault>
-    ensures { Answers (changed mark_of stack.old) result stack.old stack.new }
+    ensures answers { Answers (changed mark_of stack.old) result stack.old stack.new }
+    ensures never { result ≢ Err OpFault.NoMemory }
 {
     let Some(top) = stack.top() else {
         return Err(OpFault::Ps(PsName::StackUnderflow));
@@ -54,7 +58,8 @@ pub(crate) fn xcheck(stack: &mut Stack) -> Result<(), OpFault>
 
 /// `type`: the name of the top operand's type, an executable one.
 pub(crate) fn type_(stack: &mut Stack) -> Result<(), OpFault>
-    ensures { Answers (changed type_name stack.old) result stack.old stack.new }
+    ensures answers { Answers (changed type_name stack.old) result stack.old stack.new }
+    ensures never { result ≢ Err OpFault.NoMemory }
 {
     let Some(top) = stack.top() else {
         return Err(OpFault::Ps(PsName::StackUnderflow));
@@ -95,7 +100,8 @@ fn type_text(o: &Obj) -> &'static str
 
 /// `cvn`: the literal name of a string's bytes.
 pub(crate) fn cvn(stack: &mut Stack, store: &Store) -> Result<(), OpFault>
-    ensures { Answers (cvn_row stack.old store.now) result stack.old stack.new }
+    ensures answers { Answers (cvn_row stack.old store.now) result stack.old stack.new }
+    ensures never { result ≢ Err OpFault.NoMemory }
 {
     let Some(top) = stack.top() else {
         return Err(OpFault::Ps(PsName::StackUnderflow));
