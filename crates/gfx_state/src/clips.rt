@@ -1,5 +1,5 @@
 //! The clip: the regions that each mark is cut to.
-ghost use Rattle.std.specs.Prelude.{◌≡◌, ◌≤◌, ◌↔◌, ◌∷◌, ◌++◌, [], length, Some, None, OnOk, OnErr, IfOk, IsErrOf};
+ghost use Rattle.std.specs.Prelude.{◌≡◌, ◌≤◌, ◌↔◌, ◌∷◌, ◌++◌, [], length, nat_lt, Some, None, OnOk, OnErr, IfOk, IsErrOf};
 ghost use Rattle.std.specs.Arc.{arc_value};
 ghost use Rattle.gfx_state.specs.Graphics.{clipped, clipped_to, with_initial_clip, region_of};
 
@@ -40,12 +40,19 @@ impl Gfx {
         Ok(())
     }
 
+    /// Whether the clip has fewer than 256 regions, so that it may be cut once more.
+    pub fn has_clip_room(&self) -> bool
+        ensures { result ≡ nat_lt (length self.now.state.clip) 256 }
+    {
+        self.state.regions() < REGIONS
+    }
+
     /// The clip with one more region.
     fn cut_clip(&self, rule: Rule, path: &Path) -> Result<Arc<Clip>, Grow>
         ensures ok { IfOk result (λ clip. arc_value clip ≡ self.now.state.clip ++ region_of rule path.now ∷ []) }
         ensures limit { IsErrOf result Grow.LimitCheck ↔ (256 ≤ length self.now.state.clip) }
     {
-        if self.state.regions() >= REGIONS {
+        if !self.has_clip_room() {
             return Err(Grow::LimitCheck);
         }
         let rings = path.flatten()?.into_rings(self.alloc)?;

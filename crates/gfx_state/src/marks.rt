@@ -57,8 +57,9 @@ impl Gfx {
         Ok(())
     }
 
-    /// Whether the page has room for one more mark of so many points.
-    fn has_room(&self, points: u64) -> bool
+    /// Whether the page has room for one more mark of so many points: it has fewer than 1,000,000
+    /// marks, and would have at most 4,194,304 points.
+    pub fn has_room(&self, points: u64) -> bool
         ensures { result ≡ has_room self.now points }
     {
         self.marks.items().len() < MARKS && points <= POINTS - self.points
@@ -100,7 +101,8 @@ impl Gfx {
     fn add_shapes(&mut self, rule: Rule, shapes: Shapes, points: u64) -> Mem<()>
         requires points { points ≡ all_points shapes }
         requires room { has_room self.old points ≡ true }
-        ensures ok { OnOk result (self.new ≡ record self.old { marks = self.old.marks ++ mark_with self.old.state rule shapes ∷ [] }) }
+        ensures ok { OnOk result (self.new ≡
+            record self.old { marks = self.old.marks ++ mark_with self.old.state rule shapes ∷ [] }) }
         ensures err { OnErr result (self.new ≡ self.old) }
     {
         let mark = flat_mark(rule, shapes, &self.state, &self.no_clip)?;

@@ -39,7 +39,8 @@ impl Gfx {
     pub fn move_to(&mut self, p: Point) -> Result<(), PathFault>
         ensures ok { OnOk result (with_answer self.old (move_of self.old.state.path p) ≡ Ok self.new) }
         ensures refused { IfErr (move_of self.old.state.path p) (λ fault. result ≡ Err fault) }
-        ensures cause { IfErr result (λ fault. fault ≢ PathFault.NoMemory → move_of self.old.state.path p ≡ Err fault) }
+        ensures cause { IfErr result
+            (λ fault. fault ≢ PathFault.NoMemory → move_of self.old.state.path p ≡ Err fault) }
         ensures err { OnErr result (self.new ≡ self.old) }
     {
         self.path().check_move(p)?;
@@ -53,7 +54,8 @@ impl Gfx {
     pub fn line_to(&mut self, p: Point) -> Result<(), PathFault>
         ensures ok { OnOk result (with_answer self.old (line_of self.old.state.path p) ≡ Ok self.new) }
         ensures refused { IfErr (line_of self.old.state.path p) (λ fault. result ≡ Err fault) }
-        ensures cause { IfErr result (λ fault. fault ≢ PathFault.NoMemory → line_of self.old.state.path p ≡ Err fault) }
+        ensures cause { IfErr result
+            (λ fault. fault ≢ PathFault.NoMemory → line_of self.old.state.path p ≡ Err fault) }
         ensures err { OnErr result (self.new ≡ self.old) }
     {
         self.path().check_line(p)?;
@@ -67,7 +69,8 @@ impl Gfx {
     pub fn curve_to(&mut self, p: Point, q: Point, r: Point) -> Result<(), PathFault>
         ensures ok { OnOk result (with_answer self.old (curve_of self.old.state.path p q r) ≡ Ok self.new) }
         ensures refused { IfErr (curve_of self.old.state.path p q r) (λ fault. result ≡ Err fault) }
-        ensures cause { IfErr result (λ fault. fault ≢ PathFault.NoMemory → curve_of self.old.state.path p q r ≡ Err fault) }
+        ensures cause { IfErr result
+            (λ fault. fault ≢ PathFault.NoMemory → curve_of self.old.state.path p q r ≡ Err fault) }
         ensures err { OnErr result (self.new ≡ self.old) }
     {
         self.path().check_curve(p, q, r)?;
@@ -101,8 +104,11 @@ impl Gfx {
         clockwise: bool,
     ) -> Result<(), PathFault>
         ensures ok { OnOk result (with_answer self.old (arc_of self.old.state.path self.old.state.matrix x y r from to clockwise) ≡ Ok self.new) }
-        ensures refused { IfErr (arc_of self.old.state.path self.old.state.matrix x y r from to clockwise) (λ fault. result ≡ Err fault) }
-        ensures cause { IfErr result (λ fault. fault ≢ PathFault.NoMemory → arc_of self.old.state.path self.old.state.matrix x y r from to clockwise ≡ Err fault) }
+        ensures refused { IfErr (arc_of self.old.state.path self.old.state.matrix x y r from to clockwise)
+            (λ fault. result ≡ Err fault) }
+        ensures cause { IfErr result
+            (λ fault. fault ≢ PathFault.NoMemory →
+            arc_of self.old.state.path self.old.state.matrix x y r from to clockwise ≡ Err fault) }
         ensures err { OnErr result (self.new ≡ self.old) }
     {
         self.path()

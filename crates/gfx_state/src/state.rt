@@ -141,7 +141,8 @@ impl Saved {
     }
 
     pub(crate) fn pop(&mut self) -> Option<State>
-        ensures popped { MatchOption result ((self.old ≡ []) × (self.new ≡ [])) (λ state. self.old ≡ state ∷ self.new) }
+        ensures popped { MatchOption result ((self.old ≡ []) × (self.new ≡ []))
+            (λ state. self.old ≡ state ∷ self.new) }
     {
         self.states.pop()
     }
