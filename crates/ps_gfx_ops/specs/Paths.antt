@@ -17,6 +17,7 @@ use Rattle.ps_store.specs.declared.obj.Obj.TheVariants.{Real}
 use Rattle.ps_store.specs.Numbers.{raw_of}
 use Rattle.ps_store.specs.Outcome.{Outcome, Goes, Refuses, or_limit, or_undefined_result, or_refusal}
 use Rattle.gfx_state.specs.Graphics.{Graphics, with_path, filled, stroked, clipped}
+use Rattle.gfx_state.specs.Stroke.{pen_of}
 use Rattle.ps_gfx_ops.specs.Easel.{Easel}
 use Rattle.ps_gfx_ops.specs.Points.{one_point, three_points}
 
@@ -103,6 +104,10 @@ fill_row rule operands g = or_limit (filled g rule) (λ page. Goes (record { ope
 -- the path stroked by the line parameters
 abbrev pub stroke_row : List Obj → Graphics → Outcome Easel
 stroke_row operands g = or_limit (stroked g) (λ page. Goes (record { operands = operands; graphics = page }))
+
+-- what of this is asked before any memory is: whether the pen is in range
+abbrev pub stroke_start : List Obj → Graphics → Outcome Easel
+stroke_start operands g = or_limit (pen_of g.state.matrix g.state.line) (λ pen. Goes (record { operands = operands; graphics = g }))
 
 -- the clip cut to the path, which stays
 abbrev pub clip_row : Rule → List Obj → Graphics → Outcome Easel

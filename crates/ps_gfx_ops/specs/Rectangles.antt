@@ -55,6 +55,11 @@ rectstroke_row operands g =
     or_refusal (one_rectangle g.state.matrix operands) (λ ring. or_limit (stroked_along g (path_along ring)) (λ page.
     Goes (record { operands = drop 4 operands; graphics = page })))
 
+-- what of this is asked before any memory is: whether the operands are a rectangle
+abbrev pub rectstroke_start : List Obj → Graphics → Outcome Easel
+rectstroke_start operands g =
+    or_refusal (one_rectangle g.state.matrix operands) (λ ring. Goes (record { operands = operands; graphics = g }))
+
 -- the current path is empty then
 abbrev pub rectclip_row : List Obj → Graphics → Outcome Easel
 rectclip_row operands g =

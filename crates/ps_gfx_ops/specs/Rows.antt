@@ -1,5 +1,5 @@
 -- The rows of the graphics operators: what each does to the operands, the store, the graphics state and the page.
-use Rattle.std.specs.Prelude.{List, true, false}
+use Rattle.std.specs.Prelude.{List, Bool, true, false}
 use Rattle.page_model.specs.declared.shape.Rule.TheVariants.{Nonzero, EvenOdd}
 use Rattle.ps_store.specs.declared.obj.Obj.{Obj}
 use Rattle.ps_store.specs.declared.oper.GfxOp.{GfxOp}
@@ -11,11 +11,11 @@ use Rattle.gfx_state.specs.Graphics.{Graphics, erased, restored, all_restored, w
 use Rattle.ps_gfx_ops.specs.Scene.{Scene, beside}
 use Rattle.ps_gfx_ops.specs.States.{gsave_row}
 use Rattle.ps_gfx_ops.specs.Colours.{currentgray_row, setgray_row, setrgbcolor_row, setcmykcolor_row}
-use Rattle.ps_gfx_ops.specs.Lines.{setlinewidth_row, setmiterlimit_row, setlinecap_row, setlinejoin_row, setdash_row, currentlinewidth_row}
+use Rattle.ps_gfx_ops.specs.Lines.{setlinewidth_row, setmiterlimit_row, setlinecap_row, setlinejoin_row, setdash_row, setdash_start, currentlinewidth_row}
 use Rattle.ps_gfx_ops.specs.Matrices.{matrix_row, currentmatrix_row, setmatrix_row, concat_row, translate_row, scale_row, rotate_row, transform_row, itransform_row}
-use Rattle.ps_gfx_ops.specs.Paths.{moveto_row, lineto_row, rmoveto_row, rlineto_row, curveto_row, rcurveto_row, arc_row, currentpoint_row, fill_row, stroke_row, clip_row}
+use Rattle.ps_gfx_ops.specs.Paths.{moveto_row, lineto_row, rmoveto_row, rlineto_row, curveto_row, rcurveto_row, arc_row, currentpoint_row, fill_row, stroke_row, stroke_start, clip_row}
 use Rattle.ps_gfx_ops.specs.Devices.{setpagedevice_row}
-use Rattle.ps_gfx_ops.specs.Rectangles.{rectfill_row, rectstroke_row, rectclip_row}
+use Rattle.ps_gfx_ops.specs.Rectangles.{rectfill_row, rectstroke_row, rectstroke_start, rectclip_row}
 
 -- an operator without operands that is never refused
 abbrev pub becomes : Graphics → List Obj → Kept → Outcome Scene
@@ -68,3 +68,36 @@ gfx_row OnGfx.Rectstroke operands s g = beside s (rectstroke_row operands g)
 gfx_row OnGfx.Rectclip operands s g = beside s (rectclip_row operands g)
 gfx_row OnGfx.Erasepage operands s g = becomes (erased g) operands s
 gfx_row OnGfx.Setpagedevice operands s g = beside s (setpagedevice_row operands s g)
+
+-- the operators that may find no memory
+abbrev pub takes_memory : GfxOp → Bool
+takes_memory OnGfx.Gsave = true
+takes_memory OnGfx.Grestoreall = true
+takes_memory OnGfx.Setdash = true
+takes_memory OnGfx.Matrix = true
+takes_memory OnGfx.Closepath = true
+takes_memory OnGfx.Moveto = true
+takes_memory OnGfx.Lineto = true
+takes_memory OnGfx.Rmoveto = true
+takes_memory OnGfx.Rlineto = true
+takes_memory OnGfx.Curveto = true
+takes_memory OnGfx.Rcurveto = true
+takes_memory OnGfx.Arc = true
+takes_memory OnGfx.Arcn = true
+takes_memory OnGfx.Fill = true
+takes_memory OnGfx.Eofill = true
+takes_memory OnGfx.Stroke = true
+takes_memory OnGfx.Clip = true
+takes_memory OnGfx.Eoclip = true
+takes_memory OnGfx.Rectfill = true
+takes_memory OnGfx.Rectstroke = true
+takes_memory OnGfx.Rectclip = true
+takes_memory op = false
+
+-- What is asked before any memory is: the whole row, but that dashes are taken out of their array before they are asked, and
+-- that the dashes and points of an outline aren't counted before it is made.
+abbrev pub row_before_memory : GfxOp → List Obj → Kept → Graphics → Outcome Scene
+row_before_memory OnGfx.Setdash operands s g = beside s (setdash_start operands s g)
+row_before_memory OnGfx.Stroke operands s g = beside s (stroke_start operands g)
+row_before_memory OnGfx.Rectstroke operands s g = beside s (rectstroke_start operands g)
+row_before_memory op operands s g = gfx_row op operands s g

@@ -1,5 +1,5 @@
 //! Operators on the current colour.
-ghost use Rattle.std.specs.Prelude.{◌≡◌};
+ghost use Rattle.std.specs.Prelude.{◌≡◌, ◌≢◌, Err};
 ghost use Rattle.ps_store.specs.Outcome.{Answers};
 ghost use Rattle.ps_gfx_ops.specs.Colours.{currentgray_row, setgray_row, setrgbcolor_row, setcmykcolor_row};
 
@@ -9,7 +9,10 @@ use ps_store::{Obj, OpFault, Stack, number};
 
 /// `currentgray`: the gray of the current colour.
 pub(crate) fn currentgray(stack: &mut Stack, gfx: &mut Gfx) -> Result<(), OpFault>
-    ensures { Answers (currentgray_row stack.old gfx.old) result (record { operands = stack.old; graphics = gfx.old }) (record { operands = stack.new; graphics = gfx.new }) }
+    ensures answers { Answers (currentgray_row stack.old gfx.old) result
+        (record { operands = stack.old; graphics = gfx.old })
+        (record { operands = stack.new; graphics = gfx.new }) }
+    ensures never { result ≢ Err OpFault.NoMemory }
 {
     match stack.push(Obj::Real(gfx.gray())) {
         Ok(()) => Ok(()),
@@ -19,7 +22,10 @@ pub(crate) fn currentgray(stack: &mut Stack, gfx: &mut Gfx) -> Result<(), OpFaul
 
 /// `setgray`: DeviceGray and a colour of it.
 pub(crate) fn setgray(stack: &mut Stack, gfx: &mut Gfx) -> Result<(), OpFault>
-    ensures { Answers (setgray_row stack.old gfx.old) result (record { operands = stack.old; graphics = gfx.old }) (record { operands = stack.new; graphics = gfx.new }) }
+    ensures answers { Answers (setgray_row stack.old gfx.old) result
+        (record { operands = stack.old; graphics = gfx.old })
+        (record { operands = stack.new; graphics = gfx.new }) }
+    ensures never { result ≢ Err OpFault.NoMemory }
 {
     let Some(gray) = stack.top() else {
         return Err(OpFault::Ps(PsName::StackUnderflow));
@@ -35,7 +41,10 @@ pub(crate) fn setgray(stack: &mut Stack, gfx: &mut Gfx) -> Result<(), OpFault>
 
 /// `setrgbcolor`: DeviceRGB and a colour of it.
 pub(crate) fn setrgbcolor(stack: &mut Stack, gfx: &mut Gfx) -> Result<(), OpFault>
-    ensures { Answers (setrgbcolor_row stack.old gfx.old) result (record { operands = stack.old; graphics = gfx.old }) (record { operands = stack.new; graphics = gfx.new }) }
+    ensures answers { Answers (setrgbcolor_row stack.old gfx.old) result
+        (record { operands = stack.old; graphics = gfx.old })
+        (record { operands = stack.new; graphics = gfx.new }) }
+    ensures never { result ≢ Err OpFault.NoMemory }
 {
     let Some((blue, green, red)) = stack.top_three() else {
         return Err(OpFault::Ps(PsName::StackUnderflow));
@@ -51,7 +60,10 @@ pub(crate) fn setrgbcolor(stack: &mut Stack, gfx: &mut Gfx) -> Result<(), OpFaul
 
 /// `setcmykcolor`: DeviceCMYK and a colour of it.
 pub(crate) fn setcmykcolor(stack: &mut Stack, gfx: &mut Gfx) -> Result<(), OpFault>
-    ensures { Answers (setcmykcolor_row stack.old gfx.old) result (record { operands = stack.old; graphics = gfx.old }) (record { operands = stack.new; graphics = gfx.new }) }
+    ensures answers { Answers (setcmykcolor_row stack.old gfx.old) result
+        (record { operands = stack.old; graphics = gfx.old })
+        (record { operands = stack.new; graphics = gfx.new }) }
+    ensures never { result ≢ Err OpFault.NoMemory }
 {
     let Some((black, yellow, magenta, cyan)) = stack.top_four() else {
         return Err(OpFault::Ps(PsName::StackUnderflow));

@@ -1,5 +1,5 @@
 //! `setpagedevice`: pages of another size.
-ghost use Rattle.std.specs.Prelude.{◌≡◌, ◌≤◌, IfOk, OnOk, length, codes};
+ghost use Rattle.std.specs.Prelude.{◌≡◌, ◌≢◌, ◌≤◌, Err, IfOk, OnOk, length, codes};
 ghost use Rattle.ps_store.specs.Outcome.{Answers};
 ghost use Rattle.gfx_state.specs.Graphics.{PageSize};
 ghost use Rattle.gfx_state.specs.Keeping.{IsPageSize};
@@ -22,9 +22,10 @@ pub(crate) struct PageDots {
 
 /// `setpagedevice`: a blank page, of the dictionary's PageSize where it has one.
 pub(crate) fn setpagedevice(stack: &mut Stack, store: &Store, gfx: &mut Gfx) -> Result<(), OpFault>
-    ensures { Answers (setpagedevice_row stack.old store.now gfx.old) result
+    ensures answers { Answers (setpagedevice_row stack.old store.now gfx.old) result
         (record { operands = stack.old; graphics = gfx.old })
         (record { operands = stack.new; graphics = gfx.new }) }
+    ensures never { result ≢ Err OpFault.NoMemory }
 {
     let dots = one_size(gfx, stack, store)?;
     gfx.set_page(dots.width, dots.height);

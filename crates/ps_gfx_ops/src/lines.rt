@@ -1,7 +1,7 @@
 //! Operators on the line parameters.
-ghost use Rattle.std.specs.Prelude.{◌≡◌, ◌≤◌, OnOk, IfOk, length, map};
-ghost use Rattle.ps_store.specs.Outcome.{Answers};
-ghost use Rattle.ps_gfx_ops.specs.Lines.{one_integer, number_in, setlinewidth_row, setmiterlimit_row, setlinecap_row, setlinejoin_row, setdash_row, currentlinewidth_row};
+ghost use Rattle.std.specs.Prelude.{◌≡◌, ◌≢◌, ◌≤◌, OnOk, IfOk, Err, length, map};
+ghost use Rattle.ps_store.specs.Outcome.{Answers, TellsRefusal};
+ghost use Rattle.ps_gfx_ops.specs.Lines.{one_integer, number_in, setlinewidth_row, setmiterlimit_row, setlinecap_row, setlinejoin_row, setdash_row, setdash_start, currentlinewidth_row};
 
 use crate::matrices::are_numbers;
 use crate::points::one_number;
@@ -27,9 +27,10 @@ fn one_integer(stack: &Stack) -> Result<Whole, PsName>
 
 /// `setlinewidth`: the width of lines, taken without its sign.
 pub(crate) fn setlinewidth(stack: &mut Stack, gfx: &mut Gfx) -> Result<(), OpFault>
-    ensures { Answers (setlinewidth_row stack.old gfx.old) result
+    ensures answers { Answers (setlinewidth_row stack.old gfx.old) result
         (record { operands = stack.old; graphics = gfx.old })
         (record { operands = stack.new; graphics = gfx.new }) }
+    ensures never { result ≢ Err OpFault.NoMemory }
 {
     let width = one_number(stack)?;
     match gfx.set_width(width) {
@@ -43,9 +44,10 @@ pub(crate) fn setlinewidth(stack: &mut Stack, gfx: &mut Gfx) -> Result<(), OpFau
 
 /// `setmiterlimit`: where miters become bevels.
 pub(crate) fn setmiterlimit(stack: &mut Stack, gfx: &mut Gfx) -> Result<(), OpFault>
-    ensures { Answers (setmiterlimit_row stack.old gfx.old) result
+    ensures answers { Answers (setmiterlimit_row stack.old gfx.old) result
         (record { operands = stack.old; graphics = gfx.old })
         (record { operands = stack.new; graphics = gfx.new }) }
+    ensures never { result ≢ Err OpFault.NoMemory }
 {
     let limit = one_number(stack)?;
     match gfx.set_miter(limit) {
@@ -59,9 +61,10 @@ pub(crate) fn setmiterlimit(stack: &mut Stack, gfx: &mut Gfx) -> Result<(), OpFa
 
 /// `setlinecap`: how open lines end.
 pub(crate) fn setlinecap(stack: &mut Stack, gfx: &mut Gfx) -> Result<(), OpFault>
-    ensures { Answers (setlinecap_row stack.old gfx.old) result
+    ensures answers { Answers (setlinecap_row stack.old gfx.old) result
         (record { operands = stack.old; graphics = gfx.old })
         (record { operands = stack.new; graphics = gfx.new }) }
+    ensures never { result ≢ Err OpFault.NoMemory }
 {
     let n = one_integer(stack)?;
     match gfx.set_cap(n) {
@@ -75,9 +78,10 @@ pub(crate) fn setlinecap(stack: &mut Stack, gfx: &mut Gfx) -> Result<(), OpFault
 
 /// `setlinejoin`: how segments meet.
 pub(crate) fn setlinejoin(stack: &mut Stack, gfx: &mut Gfx) -> Result<(), OpFault>
-    ensures { Answers (setlinejoin_row stack.old gfx.old) result
+    ensures answers { Answers (setlinejoin_row stack.old gfx.old) result
         (record { operands = stack.old; graphics = gfx.old })
         (record { operands = stack.new; graphics = gfx.new }) }
+    ensures never { result ≢ Err OpFault.NoMemory }
 {
     let n = one_integer(stack)?;
     match gfx.set_join(n) {
@@ -96,9 +100,10 @@ pub(crate) fn setdash(
     store: &Store,
     gfx: &mut Gfx,
 ) -> Result<(), OpFault>
-    ensures { Answers (setdash_row stack.old store.now gfx.old) result
+    ensures answers { Answers (setdash_row stack.old store.now gfx.old) result
         (record { operands = stack.old; graphics = gfx.old })
         (record { operands = stack.new; graphics = gfx.new }) }
+    ensures refused_at_first { TellsRefusal (setdash_start stack.old store.now gfx.old) result }
 {
     let Some((offset, dashes)) = stack.top_two() else {
         return Err(OpFault::Ps(PsName::StackUnderflow));
@@ -149,9 +154,10 @@ fn number_or_zero(o: &Obj) -> Fix
 
 /// `currentlinewidth`: the width of lines.
 pub(crate) fn currentlinewidth(stack: &mut Stack, gfx: &Gfx) -> Result<(), OpFault>
-    ensures { Answers (currentlinewidth_row stack.old gfx.now) result
+    ensures answers { Answers (currentlinewidth_row stack.old gfx.now) result
         (record { operands = stack.old; graphics = gfx.now })
         (record { operands = stack.new; graphics = gfx.now }) }
+    ensures never { result ≢ Err OpFault.NoMemory }
 {
     match stack.push(Obj::Real(gfx.width())) {
         Ok(()) => Ok(()),

@@ -1,6 +1,6 @@
 //! Operators on the current transformation matrix, and on matrices that arrays hold.
-ghost use Rattle.std.specs.Prelude.{◌≡◌};
-ghost use Rattle.ps_store.specs.Outcome.{Answers};
+ghost use Rattle.std.specs.Prelude.{◌≡◌, ◌≢◌, Err};
+ghost use Rattle.ps_store.specs.Outcome.{Answers, TellsRefusal};
 ghost use Rattle.std.specs.List.{list_all};
 ghost use Rattle.ps_store.specs.Numbers.{raw_of};
 ghost use Rattle.ps_store.specs.Gathering.{with_elements};
@@ -29,9 +29,10 @@ fn elements(m: &Matrix) -> [Obj; 6]
 
 /// `matrix`: a new array of the identity matrix.
 pub(crate) fn matrix(stack: &mut Stack, store: &mut Store) -> Result<(), OpFault>
-    ensures { (g : Graphics) → Answers (matrix_row stack.old store.old g) result
+    ensures answers { (g : Graphics) → Answers (matrix_row stack.old store.old g) result
         (record { operands = stack.old; store = store.old; graphics = g })
         (record { operands = stack.new; store = store.new; graphics = g }) }
+    ensures refused { (g : Graphics) → TellsRefusal (matrix_row stack.old store.old g) result }
 {
     if stack.len() >= MAX_OPERANDS {
         return Err(OpFault::Ps(PsName::StackOverflow));
@@ -48,9 +49,10 @@ pub(crate) fn matrix(stack: &mut Stack, store: &mut Store) -> Result<(), OpFault
 
 /// `currentmatrix`: the current transformation matrix in the first six elements of an array.
 pub(crate) fn currentmatrix(stack: &mut Stack, store: &mut Store, gfx: &Gfx) -> Result<(), OpFault>
-    ensures { Answers (currentmatrix_row stack.old store.old gfx.now) result
+    ensures answers { Answers (currentmatrix_row stack.old store.old gfx.now) result
         (record { operands = stack.old; store = store.old; graphics = gfx.now })
         (record { operands = stack.new; store = store.new; graphics = gfx.now }) }
+    ensures never { result ≢ Err OpFault.NoMemory }
 {
     let Some(top) = stack.top() else {
         return Err(OpFault::Ps(PsName::StackUnderflow));
@@ -130,9 +132,10 @@ fn six(a: &Obj, b: &Obj, c: &Obj, d: &Obj, tx: &Obj, ty: &Obj) -> Result<Matrix,
 
 /// `setmatrix`: an array becomes the current transformation matrix.
 pub(crate) fn setmatrix(stack: &mut Stack, store: &Store, gfx: &mut Gfx) -> Result<(), OpFault>
-    ensures { Answers (setmatrix_row stack.old store.now gfx.old) result
+    ensures answers { Answers (setmatrix_row stack.old store.now gfx.old) result
         (record { operands = stack.old; graphics = gfx.old })
         (record { operands = stack.new; graphics = gfx.new }) }
+    ensures never { result ≢ Err OpFault.NoMemory }
 {
     let m = one_matrix(stack, store)?;
     gfx.set_matrix(&m);
@@ -142,9 +145,10 @@ pub(crate) fn setmatrix(stack: &mut Stack, store: &Store, gfx: &mut Gfx) -> Resu
 
 /// `concat`: the matrix of an array is put before the current one.
 pub(crate) fn concat(stack: &mut Stack, store: &Store, gfx: &mut Gfx) -> Result<(), OpFault>
-    ensures { Answers (concat_row stack.old store.now gfx.old) result
+    ensures answers { Answers (concat_row stack.old store.now gfx.old) result
         (record { operands = stack.old; graphics = gfx.old })
         (record { operands = stack.new; graphics = gfx.new }) }
+    ensures never { result ≢ Err OpFault.NoMemory }
 {
     let m = one_matrix(stack, store)?;
     match gfx.concat(&m) {
@@ -158,9 +162,10 @@ pub(crate) fn concat(stack: &mut Stack, store: &Store, gfx: &mut Gfx) -> Result<
 
 /// `translate`: moves the origin of user space.
 pub(crate) fn translate(stack: &mut Stack, gfx: &mut Gfx) -> Result<(), OpFault>
-    ensures { Answers (translate_row stack.old gfx.old) result
+    ensures answers { Answers (translate_row stack.old gfx.old) result
         (record { operands = stack.old; graphics = gfx.old })
         (record { operands = stack.new; graphics = gfx.new }) }
+    ensures never { result ≢ Err OpFault.NoMemory }
 {
     let u = one_point(stack)?;
     match gfx.translate(u.x, u.y) {
@@ -174,9 +179,10 @@ pub(crate) fn translate(stack: &mut Stack, gfx: &mut Gfx) -> Result<(), OpFault>
 
 /// `scale`: makes the units of user space so many times as long.
 pub(crate) fn scale(stack: &mut Stack, gfx: &mut Gfx) -> Result<(), OpFault>
-    ensures { Answers (scale_row stack.old gfx.old) result
+    ensures answers { Answers (scale_row stack.old gfx.old) result
         (record { operands = stack.old; graphics = gfx.old })
         (record { operands = stack.new; graphics = gfx.new }) }
+    ensures never { result ≢ Err OpFault.NoMemory }
 {
     let u = one_point(stack)?;
     match gfx.scale(u.x, u.y) {
@@ -190,9 +196,10 @@ pub(crate) fn scale(stack: &mut Stack, gfx: &mut Gfx) -> Result<(), OpFault>
 
 /// `rotate`: turns user space by so many degrees.
 pub(crate) fn rotate(stack: &mut Stack, gfx: &mut Gfx) -> Result<(), OpFault>
-    ensures { Answers (rotate_row stack.old gfx.old) result
+    ensures answers { Answers (rotate_row stack.old gfx.old) result
         (record { operands = stack.old; graphics = gfx.old })
         (record { operands = stack.new; graphics = gfx.new }) }
+    ensures never { result ≢ Err OpFault.NoMemory }
 {
     let angle = one_number(stack)?;
     match gfx.rotate(angle) {
@@ -206,9 +213,10 @@ pub(crate) fn rotate(stack: &mut Stack, gfx: &mut Gfx) -> Result<(), OpFault>
 
 /// `transform`: the point of device space of a user point.
 pub(crate) fn transform(stack: &mut Stack, gfx: &Gfx) -> Result<(), OpFault>
-    ensures { Answers (transform_row stack.old gfx.now) result
+    ensures answers { Answers (transform_row stack.old gfx.now) result
         (record { operands = stack.old; graphics = gfx.now })
         (record { operands = stack.new; graphics = gfx.now }) }
+    ensures never { result ≢ Err OpFault.NoMemory }
 {
     let u = one_point(stack)?;
     let Ok(v) = device_of(&gfx.matrix(), u.x, u.y) else {
@@ -220,9 +228,10 @@ pub(crate) fn transform(stack: &mut Stack, gfx: &Gfx) -> Result<(), OpFault>
 
 /// `itransform`: the user point of a point of device space.
 pub(crate) fn itransform(stack: &mut Stack, gfx: &Gfx) -> Result<(), OpFault>
-    ensures { Answers (itransform_row stack.old gfx.now) result
+    ensures answers { Answers (itransform_row stack.old gfx.now) result
         (record { operands = stack.old; graphics = gfx.now })
         (record { operands = stack.new; graphics = gfx.now }) }
+    ensures never { result ≢ Err OpFault.NoMemory }
 {
     let u = one_point(stack)?;
     let Ok(v) = user_of(&gfx.matrix(), u.x, u.y) else {

@@ -1,10 +1,10 @@
 //! Operators on the current path.
-ghost use Rattle.std.specs.Prelude.{◌≡◌, ◌≢◌, ◌≤◌, OnOk, IfErr, drop, length};
+ghost use Rattle.std.specs.Prelude.{◌≡◌, ◌≢◌, ◌≤◌, OnOk, Err, IfErr, None, drop, length};
 ghost use Rattle.geo_matrix.specs.Affine.{IsNear};
-ghost use Rattle.geo_path.specs.Path.{curve_of, closed};
+ghost use Rattle.geo_path.specs.Path.{line_of, curve_of, closed};
 ghost use Rattle.gfx_state.specs.Graphics.{with_path};
-ghost use Rattle.ps_store.specs.Outcome.{Answers};
-ghost use Rattle.ps_gfx_ops.specs.Paths.{error_of, drawn, stepped, moveto_row, lineto_row, rmoveto_row, rlineto_row, curveto_row, rcurveto_row, arc_row, currentpoint_row, fill_row, stroke_row, clip_row};
+ghost use Rattle.ps_store.specs.Outcome.{Answers, TellsRefusal};
+ghost use Rattle.ps_gfx_ops.specs.Paths.{error_of, drawn, stepped, moveto_row, lineto_row, rmoveto_row, rlineto_row, curveto_row, rcurveto_row, arc_row, currentpoint_row, fill_row, stroke_row, stroke_start, clip_row};
 
 use crate::points::{one_point, three_points};
 use geo_matrix::{back, by_dots, to_dots};
@@ -38,9 +38,10 @@ fn stepped(at: Point, step: Point) -> Point
 
 /// `moveto`: starts a subpath.
 pub(crate) fn moveto(stack: &mut Stack, gfx: &mut Gfx) -> Result<(), OpFault>
-    ensures { Answers (moveto_row stack.old gfx.old) result
+    ensures answers { Answers (moveto_row stack.old gfx.old) result
         (record { operands = stack.old; graphics = gfx.old })
         (record { operands = stack.new; graphics = gfx.new }) }
+    ensures refused { TellsRefusal (moveto_row stack.old gfx.old) result }
 {
     let u = one_point(stack)?;
     let Ok(p) = to_dots(&gfx.matrix(), u.x, u.y) else {
@@ -57,31 +58,27 @@ pub(crate) fn moveto(stack: &mut Stack, gfx: &mut Gfx) -> Result<(), OpFault>
 
 /// `lineto`: a line from the current point.
 pub(crate) fn lineto(stack: &mut Stack, gfx: &mut Gfx) -> Result<(), OpFault>
-    ensures { Answers (lineto_row stack.old gfx.old) result
+    ensures answers { Answers (lineto_row stack.old gfx.old) result
         (record { operands = stack.old; graphics = gfx.old })
         (record { operands = stack.new; graphics = gfx.new }) }
+    ensures refused { TellsRefusal (lineto_row stack.old gfx.old) result }
 {
     let u = one_point(stack)?;
-    if gfx.path().current().is_none() {
+    let Some(_) = gfx.path().current() else {
         return Err(OpFault::Ps(PsName::NoCurrentPoint));
-    }
+    };
     let Ok(p) = to_dots(&gfx.matrix(), u.x, u.y) else {
         return Err(OpFault::Ps(PsName::LimitCheck));
     };
-    match gfx.line_to(p) {
-        Ok(()) => {
-            stack.drop_top(2);
-            Ok(())
-        }
-        Err(fault) => Err(refusal(fault)),
-    }
+    draw_line(stack, gfx, p)
 }
 
 /// `rmoveto`: starts a subpath a step from the current point.
 pub(crate) fn rmoveto(stack: &mut Stack, gfx: &mut Gfx) -> Result<(), OpFault>
-    ensures { Answers (rmoveto_row stack.old gfx.old) result
+    ensures answers { Answers (rmoveto_row stack.old gfx.old) result
         (record { operands = stack.old; graphics = gfx.old })
         (record { operands = stack.new; graphics = gfx.new }) }
+    ensures refused { TellsRefusal (rmoveto_row stack.old gfx.old) result }
 {
     let u = one_point(stack)?;
     let Some(at) = gfx.path().current() else {
@@ -101,9 +98,10 @@ pub(crate) fn rmoveto(stack: &mut Stack, gfx: &mut Gfx) -> Result<(), OpFault>
 
 /// `rlineto`: a line of a step from the current point.
 pub(crate) fn rlineto(stack: &mut Stack, gfx: &mut Gfx) -> Result<(), OpFault>
-    ensures { Answers (rlineto_row stack.old gfx.old) result
+    ensures answers { Answers (rlineto_row stack.old gfx.old) result
         (record { operands = stack.old; graphics = gfx.old })
         (record { operands = stack.new; graphics = gfx.new }) }
+    ensures refused { TellsRefusal (rlineto_row stack.old gfx.old) result }
 {
     let u = one_point(stack)?;
     let Some(at) = gfx.path().current() else {
@@ -112,7 +110,18 @@ pub(crate) fn rlineto(stack: &mut Stack, gfx: &mut Gfx) -> Result<(), OpFault>
     let Ok(offset) = by_dots(&gfx.matrix(), u.x, u.y) else {
         return Err(OpFault::Ps(PsName::LimitCheck));
     };
-    match gfx.line_to(stepped(at, offset)) {
+    draw_line(stack, gfx, stepped(at, offset))
+}
+
+/// Draws a line from the current point, and drops its two operands.
+fn draw_line(stack: &mut Stack, gfx: &mut Gfx, p: Point) -> Result<(), OpFault>
+    requires { 2 ≤ length stack.old }
+    ensures answers { Answers (drawn (line_of gfx.old.state.path p) (drop 2 stack.old) gfx.old) result
+        (record { operands = stack.old; graphics = gfx.old })
+        (record { operands = stack.new; graphics = gfx.new }) }
+    ensures refused { TellsRefusal (drawn (line_of gfx.old.state.path p) (drop 2 stack.old) gfx.old) result }
+{
+    match gfx.line_to(p) {
         Ok(()) => {
             stack.drop_top(2);
             Ok(())
@@ -123,14 +132,15 @@ pub(crate) fn rlineto(stack: &mut Stack, gfx: &mut Gfx) -> Result<(), OpFault>
 
 /// `curveto`: a curve from the current point.
 pub(crate) fn curveto(stack: &mut Stack, gfx: &mut Gfx) -> Result<(), OpFault>
-    ensures { Answers (curveto_row stack.old gfx.old) result
+    ensures answers { Answers (curveto_row stack.old gfx.old) result
         (record { operands = stack.old; graphics = gfx.old })
         (record { operands = stack.new; graphics = gfx.new }) }
+    ensures refused { TellsRefusal (curveto_row stack.old gfx.old) result }
 {
     let u = three_points(stack)?;
-    if gfx.path().current().is_none() {
+    let Some(_) = gfx.path().current() else {
         return Err(OpFault::Ps(PsName::NoCurrentPoint));
-    }
+    };
     let Ok(p) = to_dots(&gfx.matrix(), u.first.x, u.first.y) else {
         return Err(OpFault::Ps(PsName::LimitCheck));
     };
@@ -145,9 +155,10 @@ pub(crate) fn curveto(stack: &mut Stack, gfx: &mut Gfx) -> Result<(), OpFault>
 
 /// `rcurveto`: a curve whose points are steps from the current point.
 pub(crate) fn rcurveto(stack: &mut Stack, gfx: &mut Gfx) -> Result<(), OpFault>
-    ensures { Answers (rcurveto_row stack.old gfx.old) result
+    ensures answers { Answers (rcurveto_row stack.old gfx.old) result
         (record { operands = stack.old; graphics = gfx.old })
         (record { operands = stack.new; graphics = gfx.new }) }
+    ensures refused { TellsRefusal (rcurveto_row stack.old gfx.old) result }
 {
     let u = three_points(stack)?;
     let Some(at) = gfx.path().current() else {
@@ -168,9 +179,10 @@ pub(crate) fn rcurveto(stack: &mut Stack, gfx: &mut Gfx) -> Result<(), OpFault>
 /// Draws a curve from the current point, and drops its six operands.
 fn draw_curve(stack: &mut Stack, gfx: &mut Gfx, p: Point, q: Point, r: Point) -> Result<(), OpFault>
     requires { 6 ≤ length stack.old }
-    ensures { Answers (drawn (curve_of gfx.old.state.path p q r) (drop 6 stack.old) gfx.old) result
+    ensures answers { Answers (drawn (curve_of gfx.old.state.path p q r) (drop 6 stack.old) gfx.old) result
         (record { operands = stack.old; graphics = gfx.old })
         (record { operands = stack.new; graphics = gfx.new }) }
+    ensures refused { TellsRefusal (drawn (curve_of gfx.old.state.path p q r) (drop 6 stack.old) gfx.old) result }
 {
     match gfx.curve_to(p, q, r) {
         Ok(()) => {
@@ -183,9 +195,10 @@ fn draw_curve(stack: &mut Stack, gfx: &mut Gfx, p: Point, q: Point, r: Point) ->
 
 /// `arc`, and `arcn` where it is clockwise: lines along an arc of a circle.
 pub(crate) fn arc(stack: &mut Stack, gfx: &mut Gfx, clockwise: bool) -> Result<(), OpFault>
-    ensures { Answers (arc_row clockwise stack.old gfx.old) result
+    ensures answers { Answers (arc_row clockwise stack.old gfx.old) result
         (record { operands = stack.old; graphics = gfx.old })
         (record { operands = stack.new; graphics = gfx.new }) }
+    ensures refused { TellsRefusal (arc_row clockwise stack.old gfx.old) result }
 {
     let Some((to, from, r, y, x)) = stack.top_five() else {
         return Err(OpFault::Ps(PsName::StackUnderflow));
@@ -210,9 +223,10 @@ pub(crate) fn arc(stack: &mut Stack, gfx: &mut Gfx, clockwise: bool) -> Result<(
 
 /// `currentpoint`: the current point in user space, as two real numbers.
 pub(crate) fn currentpoint(stack: &mut Stack, gfx: &Gfx) -> Result<(), OpFault>
-    ensures { Answers (currentpoint_row stack.old gfx.now) result
+    ensures answers { Answers (currentpoint_row stack.old gfx.now) result
         (record { operands = stack.old; graphics = gfx.now })
         (record { operands = stack.new; graphics = gfx.now }) }
+    ensures never { result ≢ Err OpFault.NoMemory }
 {
     let Some(at) = gfx.path().current() else {
         return Err(OpFault::Ps(PsName::NoCurrentPoint));
@@ -241,9 +255,10 @@ pub(crate) fn closepath(gfx: &mut Gfx) -> Result<(), OpFault>
 
 /// `fill` and `eofill`: the path is filled by an inside rule, and empty then.
 pub(crate) fn fill(stack: &mut Stack, gfx: &mut Gfx, rule: Rule) -> Result<(), OpFault>
-    ensures { Answers (fill_row rule stack.old gfx.old) result
+    ensures answers { Answers (fill_row rule stack.old gfx.old) result
         (record { operands = stack.old; graphics = gfx.old })
         (record { operands = stack.new; graphics = gfx.new }) }
+    ensures refused { TellsRefusal (fill_row rule stack.old gfx.old) result }
 {
     match gfx.mark_fill(rule) {
         Ok(()) => Ok(()),
@@ -254,9 +269,10 @@ pub(crate) fn fill(stack: &mut Stack, gfx: &mut Gfx, rule: Rule) -> Result<(), O
 
 /// `stroke`: the path is stroked by the line parameters, and empty then.
 pub(crate) fn stroke(stack: &mut Stack, gfx: &mut Gfx) -> Result<(), OpFault>
-    ensures { Answers (stroke_row stack.old gfx.old) result
+    ensures answers { Answers (stroke_row stack.old gfx.old) result
         (record { operands = stack.old; graphics = gfx.old })
         (record { operands = stack.new; graphics = gfx.new }) }
+    ensures refused_at_first { TellsRefusal (stroke_start stack.old gfx.old) result }
 {
     match gfx.mark_stroke() {
         Ok(()) => Ok(()),
@@ -267,9 +283,10 @@ pub(crate) fn stroke(stack: &mut Stack, gfx: &mut Gfx) -> Result<(), OpFault>
 
 /// `clip` and `eoclip`: the clip is cut to the path by an inside rule. The path stays.
 pub(crate) fn clip(stack: &mut Stack, gfx: &mut Gfx, rule: Rule) -> Result<(), OpFault>
-    ensures { Answers (clip_row rule stack.old gfx.old) result
+    ensures answers { Answers (clip_row rule stack.old gfx.old) result
         (record { operands = stack.old; graphics = gfx.old })
         (record { operands = stack.new; graphics = gfx.new }) }
+    ensures refused { TellsRefusal (clip_row rule stack.old gfx.old) result }
 {
     match gfx.clip(rule) {
         Ok(()) => Ok(()),

@@ -1,7 +1,9 @@
 //! Rectangles that are filled and stroked, and those that the clip is cut to.
-ghost use Rattle.std.specs.Prelude.{◌≡◌, ◌≤◌, [], ◌∷◌, length, IfOk, OnOk};
-ghost use Rattle.ps_store.specs.Outcome.{Answers};
-ghost use Rattle.ps_gfx_ops.specs.Rectangles.{rectangle_of, one_rectangle, path_along, rectfill_row, rectstroke_row, rectclip_row};
+ghost use Rattle.std.specs.Prelude.{◌≡◌, ◌≤◌, [], ◌∷◌, length, Err, IfOk, IfErr, OnOk};
+ghost use Rattle.std.specs.List.{All};
+ghost use Rattle.geo_matrix.specs.Affine.{IsNear};
+ghost use Rattle.ps_store.specs.Outcome.{Answers, TellsRefusal};
+ghost use Rattle.ps_gfx_ops.specs.Rectangles.{rectangle_of, one_rectangle, path_along, rectfill_row, rectstroke_row, rectstroke_start, rectclip_row};
 
 use geo_matrix::{Matrix, to_dots};
 use geo_path::{Path, PathFault};
@@ -14,7 +16,8 @@ use std::alloc::Global;
 
 /// The corners of a rectangle in device space.
 fn corners(m: &Matrix, x: Fix, y: Fix, w: Fix, h: Fix) -> Result<[Point; 4], PsName>
-    ensures { result ≡ rectangle_of m.now x y w h }
+    ensures value { result ≡ rectangle_of m.now x y w h }
+    ensures near { IfOk result (λ points. All IsNear points) }
 {
     let Some(right) = fix_add(x, w) else {
         return Err(PsName::UndefinedResult);
@@ -55,6 +58,7 @@ fn ring_of(alloc: Global, points: &[Point; 4]) -> Mem<Rings>
 /// The rectangle that the top four operands are, in device space.
 fn one_rectangle(m: &Matrix, stack: &Stack) -> Result<[Point; 4], PsName>
     ensures value { result ≡ one_rectangle m.now stack.now }
+    ensures near { IfOk result (λ points. All IsNear points) }
     ensures enough { OnOk result (4 ≤ length stack.now) }
 {
     let Some((h, w, y, x)) = stack.top_four() else {
@@ -68,20 +72,22 @@ fn one_rectangle(m: &Matrix, stack: &Stack) -> Result<[Point; 4], PsName>
 
 /// The path along four points, one closed subpath.
 fn path_along(alloc: Global, points: &[Point; 4]) -> Mem<Path>
+    requires near { All IsNear points.now }
     ensures { IfOk result (λ path. path ≡ path_along points.now) }
 {
     let mut path = Path::new(alloc);
     let [p, q, r, s] = points;
-    drawn(path.move_to(*p))?;
-    drawn(path.line_to(*q))?;
-    drawn(path.line_to(*r))?;
-    drawn(path.line_to(*s))?;
+    or_no_memory(path.move_to(*p))?;
+    or_no_memory(path.line_to(*q))?;
+    or_no_memory(path.line_to(*r))?;
+    or_no_memory(path.line_to(*s))?;
     path.close();
     Ok(path)
 }
 
-/// What a call on a path answered, where its points are near and few, so that only memory is wanted.
-fn drawn(answer: Result<(), PathFault>) -> Mem<()>
+/// What a call on a path answered that nothing but want of memory can refuse.
+fn or_no_memory(answer: Result<(), PathFault>) -> Mem<()>
+    requires { IfErr answer (λ fault. fault ≡ PathFault.NoMemory) }
     ensures { OnOk result (answer ≡ Ok tt) }
 {
     match answer {
@@ -92,11 +98,15 @@ fn drawn(answer: Result<(), PathFault>) -> Mem<()>
 
 /// `rectfill`: a mark of a rectangle. The path stays.
 pub(crate) fn rectfill(alloc: Global, stack: &mut Stack, gfx: &mut Gfx) -> Result<(), OpFault>
-    ensures { Answers (rectfill_row stack.old gfx.old) result
+    ensures answers { Answers (rectfill_row stack.old gfx.old) result
         (record { operands = stack.old; graphics = gfx.old })
         (record { operands = stack.new; graphics = gfx.new }) }
+    ensures refused { TellsRefusal (rectfill_row stack.old gfx.old) result }
 {
     let points = one_rectangle(&gfx.matrix(), stack)?;
+    if !gfx.has_room(4) {
+        return Err(OpFault::Ps(PsName::LimitCheck));
+    }
     let Ok(rings) = ring_of(alloc, &points) else {
         return Err(OpFault::NoMemory);
     };
@@ -112,9 +122,10 @@ pub(crate) fn rectfill(alloc: Global, stack: &mut Stack, gfx: &mut Gfx) -> Resul
 
 /// `rectstroke`: a mark of a rectangle's outline. The path stays.
 pub(crate) fn rectstroke(alloc: Global, stack: &mut Stack, gfx: &mut Gfx) -> Result<(), OpFault>
-    ensures { Answers (rectstroke_row stack.old gfx.old) result
+    ensures answers { Answers (rectstroke_row stack.old gfx.old) result
         (record { operands = stack.old; graphics = gfx.old })
         (record { operands = stack.new; graphics = gfx.new }) }
+    ensures refused_at_first { TellsRefusal (rectstroke_start stack.old gfx.old) result }
 {
     let points = one_rectangle(&gfx.matrix(), stack)?;
     let Ok(path) = path_along(alloc, &points) else {
@@ -132,11 +143,15 @@ pub(crate) fn rectstroke(alloc: Global, stack: &mut Stack, gfx: &mut Gfx) -> Res
 
 /// `rectclip`: the clip is cut to a rectangle. The path is empty then.
 pub(crate) fn rectclip(alloc: Global, stack: &mut Stack, gfx: &mut Gfx) -> Result<(), OpFault>
-    ensures { Answers (rectclip_row stack.old gfx.old) result
+    ensures answers { Answers (rectclip_row stack.old gfx.old) result
         (record { operands = stack.old; graphics = gfx.old })
         (record { operands = stack.new; graphics = gfx.new }) }
+    ensures refused { TellsRefusal (rectclip_row stack.old gfx.old) result }
 {
     let points = one_rectangle(&gfx.matrix(), stack)?;
+    if !gfx.has_clip_room() {
+        return Err(OpFault::Ps(PsName::LimitCheck));
+    }
     let Ok(path) = path_along(alloc, &points) else {
         return Err(OpFault::NoMemory);
     };

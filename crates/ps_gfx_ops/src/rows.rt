@@ -1,7 +1,7 @@
 //! One call for every graphics operator.
-ghost use Rattle.std.specs.Prelude.{◌≡◌};
-ghost use Rattle.ps_store.specs.Outcome.{Answers};
-ghost use Rattle.ps_gfx_ops.specs.Rows.{gfx_row};
+ghost use Rattle.std.specs.Prelude.{◌≡◌, Err, IsTrue};
+ghost use Rattle.ps_store.specs.Outcome.{Answers, TellsRefusal};
+ghost use Rattle.ps_gfx_ops.specs.Rows.{gfx_row, row_before_memory, takes_memory};
 
 use crate::colours::{currentgray, setcmykcolor, setgray, setrgbcolor};
 use crate::devices::setpagedevice;
@@ -24,7 +24,11 @@ use std::alloc::Global;
 
 /// Does what a graphics operator does, exactly as its row says. After a refusal operands, store and
 /// graphics are as before; after out of memory they are only good to be dropped.
-#[tactic(auto, using(crate::proofs::Beside::besides), unfolding(crate::specs::Rows::gfx_row))]
+///
+/// What the row refuses is told as that, also where there is no memory; but for `setdash`, whose
+/// lengths are taken out of their array before they are asked, and for `stroke` and `rectstroke`,
+/// whose outline is made before its dashes and points are counted.
+#[tactic(auto, using(crate::proofs::Beside::besides, crate::proofs::Beside::told, crate::proofs::Beside::told_without_memory), unfolding(crate::specs::Rows::gfx_row))]
 pub fn run_gfx(
     alloc: Global,
     op: GfxOp,
@@ -32,9 +36,11 @@ pub fn run_gfx(
     store: &mut Store,
     gfx: &mut Gfx,
 ) -> Result<(), OpFault>
-    ensures { Answers (gfx_row op stack.old store.old gfx.old) result
+    ensures answers { Answers (gfx_row op stack.old store.old gfx.old) result
         (record { operands = stack.old; store = store.old; graphics = gfx.old })
         (record { operands = stack.new; store = store.new; graphics = gfx.new }) }
+    ensures refused { TellsRefusal (row_before_memory op stack.old store.old gfx.old) result }
+    ensures memory { result ≡ Err OpFault.NoMemory → IsTrue (takes_memory op) }
 {
     match op {
         GfxOp::Gsave => gsave(stack, gfx),

@@ -1,7 +1,7 @@
 //! Saved graphics states.
 ghost use Rattle.std.specs.Prelude.{◌≡◌, OnOk, IfErr};
 ghost use Rattle.gfx_state.specs.Graphics.{all_restored};
-ghost use Rattle.ps_store.specs.Outcome.{Answers};
+ghost use Rattle.ps_store.specs.Outcome.{Answers, TellsRefusal};
 ghost use Rattle.ps_gfx_ops.specs.States.{gsave_row};
 
 use gfx_state::Gfx;
@@ -10,9 +10,10 @@ use ps_store::{OpFault, Stack};
 
 /// `gsave`: saves a copy of the graphics state.
 pub(crate) fn gsave(stack: &mut Stack, gfx: &mut Gfx) -> Result<(), OpFault>
-    ensures { Answers (gsave_row stack.old gfx.old) result
+    ensures answers { Answers (gsave_row stack.old gfx.old) result
         (record { operands = stack.old; graphics = gfx.old })
         (record { operands = stack.new; graphics = gfx.new }) }
+    ensures refused { TellsRefusal (gsave_row stack.old gfx.old) result }
 {
     match gfx.save() {
         Ok(()) => Ok(()),
