@@ -6,4 +6,5 @@ pub mod Errors
 pub mod Landing
 pub mod Steps
 pub mod Reading
+pub mod Memory
 pub mod Meaning

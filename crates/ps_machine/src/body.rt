@@ -1,15 +1,17 @@
 //! The state of the interpreter, and one step of it.
-ghost use Rattle.std.specs.Prelude.{◌≡◌, ◌≤◌, Some, None, IfOk, IsSome, length, codes, true, false};
+ghost use Rattle.std.specs.Prelude.{◌≡◌, ◌≢◌, ◌≤◌, Some, None, IfOk, IsOk, OnErr, IsSome, length, codes, true, false};
 ghost use Rattle.ps_store.specs.Store.{element};
 ghost use Rattle.ps_store.specs.declared.obj.Obj.TheVariants.{Bool as Truth};
 ghost use Rattle.ps_store.specs.declared.key.Key.TheVariants.{Named};
 ghost use Rattle.ps_store.specs.Dicts.{find_key};
 ghost use Rattle.ps_store.specs.Operators.{name_of, flow_name_of};
+ghost use Rattle.ps_store.specs.Outcome.{Refuses};
 ghost use Rattle.ps_stack_ops.specs.Rows.{stack_row};
 ghost use Rattle.ps_data_ops.specs.Rows.{data_row};
 ghost use Rattle.ps_flow.specs.Levels.{told};
 ghost use Rattle.ps_flow.specs.Rows.{flow_row};
-ghost use Rattle.ps_gfx_ops.specs.Rows.{gfx_row};
+ghost use Rattle.ps_gfx_ops.specs.Rows.{gfx_row, row_before_memory};
+ghost use Rattle.ps_machine.specs.Memory.{takes_memory, value_takes_memory, object_takes_memory};
 ghost use Rattle.ps_machine.specs.State.{State as Snapshot, opening};
 ghost use Rattle.ps_machine.specs.Errors.{failed, caught, pushes, counted, Ends};
 ghost use Rattle.ps_machine.specs.Steps.{execute, execute_value, operate, operate_flow, after_stack, after_data, work_of, after_gfx, after_flow, after_stop, call, turned, shown};
@@ -152,7 +154,8 @@ impl Body {
     #[inline(never)]
     #[tactic(auto, unfolding(crate::specs::Steps::execute))]
     pub(crate) fn execute(&mut self, end: &mut End, o: &Obj) -> Mem<Turn>
-        ensures { IfOk result (λ turn. execute o.now self.old ≡ step_of turn self.new end.new) }
+        ensures memory { OnErr result (object_takes_memory o.now self.old ≡ true) }
+        ensures done { IfOk result (λ turn. execute o.now self.old ≡ step_of turn self.new end.new) }
     {
         match o {
             Obj::Name(name, true) => self.execute_name(end, name),
@@ -164,7 +167,8 @@ impl Body {
     /// Executes what stands at a place of the store.
     #[tactic(auto, unfolding(crate::specs::Steps::execute))]
     fn execute_at(&mut self, end: &mut End, place: Span) -> Mem<Turn>
-        ensures { IfOk result
+        ensures memory { OnErr result (object_takes_memory (element self.old.store place 0) self.old ≡ true) }
+        ensures done { IfOk result
             (λ turn. execute (element self.old.store place 0) self.old ≡ step_of turn self.new end.new) }
     {
         match self.store.at(place, 0) {
@@ -190,7 +194,8 @@ impl Body {
     /// Executes a copy of what stands at a place of the store.
     #[inline(never)]
     fn execute_copy(&mut self, end: &mut End, place: Span) -> Mem<Turn>
-        ensures { IfOk result
+        ensures memory { OnErr result (object_takes_memory (element self.old.store place 0) self.old ≡ true) }
+        ensures done { IfOk result
             (λ turn. execute (element self.old.store place 0) self.old ≡ step_of turn self.new end.new) }
     {
         let o = self.store.get(place, 0);
@@ -199,8 +204,10 @@ impl Body {
 
     /// Does the operator that a name at a place of the store leads to.
     fn operate_named(&mut self, end: &mut End, place: Span, op: Oper) -> Mem<Turn>
-        requires { execute (element self.old.store place 0) self.old ≡ operate op self.old }
-        ensures { IfOk result
+        requires row { execute (element self.old.store place 0) self.old ≡ operate op self.old }
+        requires memory { object_takes_memory (element self.old.store place 0) self.old ≡ takes_memory op }
+        ensures memory { OnErr result (object_takes_memory (element self.old.store place 0) self.old ≡ true) }
+        ensures done { IfOk result
             (λ turn. execute (element self.old.store place 0) self.old ≡ step_of turn self.new end.new) }
     {
         self.operate(end, op)
@@ -227,7 +234,8 @@ impl Body {
     }
 
     fn execute_name(&mut self, end: &mut End, name: &Name) -> Mem<Turn>
-        ensures { IfOk result (λ turn.
+        ensures memory { OnErr result (value_takes_memory (find_key self.old.store self.old.dicts (Named name.now)) ≡ true) }
+        ensures value { IfOk result (λ turn.
             execute_value name.now (find_key self.old.store self.old.dicts (Named name.now)) self.old ≡ step_of turn self.new end.new) }
     {
         let found = self.dicts.find_name(&self.store, name).copied();
@@ -236,7 +244,8 @@ impl Body {
 
     #[tactic(auto, unfolding(crate::specs::Steps::execute_value))]
     fn execute_value(&mut self, end: &mut End, name: &Name, found: Option<Obj>) -> Mem<Turn>
-        ensures { IfOk result (λ turn. execute_value name.now found self.old ≡ step_of turn self.new end.new) }
+        ensures memory { OnErr result (value_takes_memory found ≡ true) }
+        ensures value { IfOk result (λ turn. execute_value name.now found self.old ≡ step_of turn self.new end.new) }
     {
         match &found {
             Some(o) => match o {
@@ -266,10 +275,11 @@ impl Body {
         }
     }
 
-    /// Does an operator's row.
+    /// Does an operator's row. Out of memory comes of an operator that takes some.
     #[tactic(auto, unfolding(crate::specs::Steps::operate))]
     fn operate(&mut self, end: &mut End, op: Oper) -> Mem<Turn>
-        ensures { IfOk result (λ turn. operate op self.old ≡ step_of turn self.new end.new) }
+        ensures memory { OnErr result (takes_memory op ≡ true) }
+        ensures row { IfOk result (λ turn. operate op self.old ≡ step_of turn self.new end.new) }
     {
         match op {
             Oper::Stack(op) => self.operate_stack(end, op),
@@ -286,8 +296,11 @@ impl Body {
 
     #[inline(never)]
     fn operate_stack(&mut self, end: &mut End, op: StackOp) -> Mem<Turn>
-        ensures { IfOk result (λ turn.
-            after_stack (stack_row op self.old.operands self.old.store) (name_of (Oper.Stack op)) self.old ≡ step_of turn self.new end.new) }
+        ensures row { IfOk result (λ turn.
+            after_stack (stack_row op self.old.operands self.old.store) (name_of (Oper.Stack op)) self.old ≡
+            step_of turn self.new end.new) }
+        ensures refused { (name : PsName) → stack_row op self.old.operands self.old.store ≡ Refuses name → IsOk result }
+        ensures memory { OnErr result (takes_memory (Oper.Stack op) ≡ true) }
     {
         match run_stack(op, &mut self.stack, &mut self.store) {
             Ok(()) => Ok(Turn::Went),
@@ -298,8 +311,11 @@ impl Body {
 
     #[inline(never)]
     fn operate_data(&mut self, end: &mut End, op: DataOp) -> Mem<Turn>
-        ensures { IfOk result (λ turn.
-            after_data (data_row op (work_of self.old)) (name_of (Oper.Data op)) self.old ≡ step_of turn self.new end.new) }
+        ensures row { IfOk result (λ turn.
+            after_data (data_row op (work_of self.old)) (name_of (Oper.Data op)) self.old ≡
+            step_of turn self.new end.new) }
+        ensures refused { (name : PsName) → op ≢ DataOp.CloseDict → data_row op (work_of self.old) ≡ Refuses name → IsOk result }
+        ensures memory { OnErr result (takes_memory (Oper.Data op) ≡ true) }
     {
         match run_data(
             op,
@@ -316,8 +332,12 @@ impl Body {
 
     #[inline(never)]
     fn operate_gfx(&mut self, end: &mut End, op: GfxOp) -> Mem<Turn>
-        ensures { IfOk result (λ turn.
-            after_gfx (gfx_row op self.old.operands self.old.store self.old.graphics) (name_of (Oper.Gfx op)) self.old ≡ step_of turn self.new end.new) }
+        ensures row { IfOk result (λ turn.
+            after_gfx (gfx_row op self.old.operands self.old.store self.old.graphics) (name_of (Oper.Gfx op)) self.old ≡
+            step_of turn self.new end.new) }
+        ensures refused { (name : PsName) →
+            row_before_memory op self.old.operands self.old.store self.old.graphics ≡ Refuses name → IsOk result }
+        ensures memory { OnErr result (takes_memory (Oper.Gfx op) ≡ true) }
     {
         match run_gfx(
             self.alloc,
@@ -334,18 +354,23 @@ impl Body {
 
     #[inline(never)]
     fn operate_flow(&mut self, end: &mut End, op: FlowOp) -> Mem<Turn>
-        ensures { IfOk result (λ turn. operate_flow op self.old ≡ step_of turn self.new end.new) }
+        ensures row { IfOk result (λ turn. operate_flow op self.old ≡ step_of turn self.new end.new) }
+        ensures memory { OnErr result (takes_memory (Oper.Flow op) ≡ true) }
     {
         match op {
-            FlowOp::Stop => self.stop(end),
+            FlowOp::Stop => Ok(self.stop(end)),
             _ => self.control(end, op),
         }
     }
 
     /// An operator on the execution stack, but for `stop`.
     fn control(&mut self, end: &mut End, op: FlowOp) -> Mem<Turn>
-        ensures { IfOk result (λ turn.
-            after_flow (flow_row op self.old.operands self.old.levels self.old.store self.old.dicts) (flow_name_of op) self.old ≡ step_of turn self.new end.new) }
+        ensures row { IfOk result (λ turn.
+            after_flow (flow_row op self.old.operands self.old.levels self.old.store self.old.dicts) (flow_name_of op) self.old ≡
+            step_of turn self.new end.new) }
+        ensures refused { (name : PsName) →
+            flow_row op self.old.operands self.old.levels self.old.store self.old.dicts ≡ Refuses name → IsOk result }
+        ensures memory { OnErr result (takes_memory (Oper.Flow op) ≡ true) }
     {
         match run_flow(
             op,
@@ -364,8 +389,8 @@ impl Body {
     }
 
     /// `stop`: the innermost `stopped` goes and gives true.
-    fn stop(&mut self, end: &mut End) -> Mem<Turn>
-        ensures { IfOk result (λ turn. operate_flow FlowOp.Stop self.old ≡ step_of turn self.new end.new) }
+    fn stop(&mut self, end: &mut End) -> Turn
+        ensures { operate_flow FlowOp.Stop self.old ≡ step_of result self.new end.new }
     {
         match run_flow(
             FlowOp::Stop,
@@ -374,9 +399,9 @@ impl Body {
             &mut self.store,
             &self.dicts,
         ) {
-            Ok(_) => Ok(self.push(end, b"stopped", Obj::Bool(true))),
-            Err(OpFault::Ps(name)) => Ok(self.refuse_op(end, name, Oper::Flow(FlowOp::Stop))),
-            Err(OpFault::NoMemory) => Err(NoMemory),
+            Ok(_) => self.push(end, b"stopped", Obj::Bool(true)),
+            Err(OpFault::Ps(name)) => self.refuse_op(end, name, Oper::Flow(FlowOp::Stop)),
+            Err(OpFault::NoMemory) => unreachable!(),
         }
     }
 
