@@ -11,6 +11,7 @@ use Rattle.ps_machine.specs.State.{State}
 use Rattle.ps_machine.specs.Errors.{Shows}
 use Rattle.ps_machine.specs.Steps.{execute, execute_value, operate, shown}
 use Rattle.ps_machine.specs.Reading.{step}
+use Rattle.ps_machine.specs.Memory.{takes_memory, object_takes_memory}
 use Rattle.ps_machine.specs.Meaning.{Meaning, after_page, run}
 
 -- a step that shows a page: the page comes, and then what the rest means
@@ -24,3 +25,7 @@ a_page_comes (suc n) s t now page whole h w e p r =
 pub executed : (o : Obj) (name : List ℕ) (op : Oper) (s : State) → o ≡ Name name true → find_key s.store s.dicts (Named name) ≡ Some (Operator op) → execute o s ≡ operate op s
 unfolding execute execute_value
 executed o name op s e f = rw (e, f) refl
+
+-- and takes memory where that operator does
+pub executed_memory : (o : Obj) (name : List ℕ) (op : Oper) (s : State) → o ≡ Name name true → find_key s.store s.dicts (Named name) ≡ Some (Operator op) → object_takes_memory o s ≡ takes_memory op
+executed_memory o name op s e f = rw (e, f) refl

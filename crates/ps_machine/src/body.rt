@@ -295,6 +295,7 @@ impl Body {
     }
 
     #[inline(never)]
+    #[tactic(auto, unfolding(crate::specs::Memory::takes_memory))]
     fn operate_stack(&mut self, end: &mut End, op: StackOp) -> Mem<Turn>
         ensures row { IfOk result (λ turn.
             after_stack (stack_row op self.old.operands self.old.store) (name_of (Oper.Stack op)) self.old ≡
@@ -310,6 +311,7 @@ impl Body {
     }
 
     #[inline(never)]
+    #[tactic(auto, unfolding(crate::specs::Memory::takes_memory))]
     fn operate_data(&mut self, end: &mut End, op: DataOp) -> Mem<Turn>
         ensures row { IfOk result (λ turn.
             after_data (data_row op (work_of self.old)) (name_of (Oper.Data op)) self.old ≡
@@ -331,6 +333,7 @@ impl Body {
     }
 
     #[inline(never)]
+    #[tactic(auto, unfolding(crate::specs::Memory::takes_memory))]
     fn operate_gfx(&mut self, end: &mut End, op: GfxOp) -> Mem<Turn>
         ensures row { IfOk result (λ turn.
             after_gfx (gfx_row op self.old.operands self.old.store self.old.graphics) (name_of (Oper.Gfx op)) self.old ≡
@@ -364,6 +367,7 @@ impl Body {
     }
 
     /// An operator on the execution stack, but for `stop`.
+    #[tactic(auto, unfolding(crate::specs::Memory::takes_memory))]
     fn control(&mut self, end: &mut End, op: FlowOp) -> Mem<Turn>
         ensures row { IfOk result (λ turn.
             after_flow (flow_row op self.old.operands self.old.levels self.old.store self.old.dicts) (flow_name_of op) self.old ≡
