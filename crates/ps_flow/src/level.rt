@@ -48,7 +48,13 @@ pub enum Level {
     },
 }
 
+/// A procedure without elements, as an unused place of the stack holds.
 impl Default for Level {
+    ghost use Rattle.std.specs.Prelude.{◌≡◌};
+    ghost use Rattle.ps_flow.specs.declared.level.Level.TheVariants.{Procedure};
+
+    ghost is_default = { λ level. level ≡ Procedure (record { id = 0; start = 0; len = 0 }) };
+
     fn default() -> Level {
         Level::Procedure(Span {
             id: 0,

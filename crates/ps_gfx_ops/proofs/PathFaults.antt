@@ -7,14 +7,12 @@ use Rattle.geo_path.specs.declared.segment.Segment.TheVariants.{Line, Curve}
 use Rattle.geo_path.specs.declared.path.PathFault.{PathFault}
 use Rattle.geo_path.specs.declared.path.PathFault.TheVariants as OfPath
 use Rattle.geo_path.specs.Path.{SubpathValue, PathValue, count_of, drawn_in, from_current, within, line_of, curve_of}
-use Rattle.geo_path.specs.Arc.{arrives, arc_spot, offset_by, arc_point, put_before, points_within, traced_or, room_of, angles_of, arc_to, arc_of, end_angle}
-use Rattle.geo_matrix.specs.Sine.{sine_of, cosine_of}
-use Rattle.press_nums.specs.Fix.{fix_of}
+use Rattle.geo_path.specs.Arc.{arrives, arc_spot, arc_point, put_before, points_within, traced_or, room_of, angles_of, arc_to, arc_of}
 use Rattle.ps_store.specs.declared.obj.Obj.{Obj}
 use Rattle.ps_store.specs.declared.fault.OpFault.{OpFault}
 use Rattle.ps_store.specs.declared.fault.OpFault.TheVariants.{Ps}
-use Rattle.ps_store.specs.Outcome.{Outcome, Goes, Refuses}
-use Rattle.gfx_state.specs.Graphics.{Graphics, with_path}
+use Rattle.ps_store.specs.Outcome.{Refuses}
+use Rattle.gfx_state.specs.Graphics.{Graphics}
 use Rattle.ps_gfx_ops.specs.Paths.{error_of, drawn}
 
 -- what a call refuses, an operator tells

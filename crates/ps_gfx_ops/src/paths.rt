@@ -1,5 +1,5 @@
 //! Operators on the current path.
-ghost use Rattle.std.specs.Prelude.{◌≡◌, ◌≢◌, ◌≤◌, OnOk, Err, IfErr, None, drop, length};
+ghost use Rattle.std.specs.Prelude.{◌≡◌, ◌≢◌, ◌≤◌, OnOk, Err, IfErr, drop, length};
 ghost use Rattle.geo_matrix.specs.Affine.{IsNear};
 ghost use Rattle.geo_path.specs.Path.{line_of, curve_of, closed};
 ghost use Rattle.gfx_state.specs.Graphics.{with_path};

@@ -1,5 +1,5 @@
 //! One call for every graphics operator.
-ghost use Rattle.std.specs.Prelude.{◌≡◌, Err, IsTrue};
+ghost use Rattle.std.specs.Prelude.{◌≡◌, true, Err};
 ghost use Rattle.ps_store.specs.Outcome.{Answers, TellsRefusal};
 ghost use Rattle.ps_gfx_ops.specs.Rows.{gfx_row, row_before_memory, takes_memory};
 
@@ -40,7 +40,7 @@ pub fn run_gfx(
         (record { operands = stack.old; store = store.old; graphics = gfx.old })
         (record { operands = stack.new; store = store.new; graphics = gfx.new }) }
     ensures refused { TellsRefusal (row_before_memory op stack.old store.old gfx.old) result }
-    ensures memory { result ≡ Err OpFault.NoMemory → IsTrue (takes_memory op) }
+    ensures memory { result ≡ Err OpFault.NoMemory → takes_memory op ≡ true }
 {
     match op {
         GfxOp::Gsave => gsave(stack, gfx),

@@ -1,6 +1,5 @@
 -- An operator that leaves the store as it is.
 use Rattle.std.proofs.Common.{◌≡◌, ◌≢◌, List, Result, Ok, Err, refl, ap}
-use Rattle.press_fault.specs.declared.names.PsName.{PsName}
 use Rattle.ps_store.specs.declared.fault.OpFault.{OpFault}
 use Rattle.ps_store.specs.declared.fault.OpFault.TheVariants.{Ps, NoMemory}
 use Rattle.ps_store.specs.declared.obj.Obj.{Obj}
