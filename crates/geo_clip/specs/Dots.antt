@@ -1,4 +1,4 @@
--- How a mask keeps its dots: row by row, each as open or not.
+-- How a mask keeps its dots: row by row, each as open or not. Own rule: words of the code alone.
 use Rattle.std.specs.Prelude.{◌≡◌, ℕ, ◌+◌, ◌<◌, ◌≤◌, ◌^◌, Bool, false, List, [], length, slice_index_or}
 use Rattle.page_model.specs.declared.shape.Region.{Region}
 use Rattle.geo_clip.specs.Mask.{is_open}

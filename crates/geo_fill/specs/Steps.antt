@@ -1,4 +1,4 @@
--- What the steps keep by which crossings are found, added and counted.
+-- What the steps keep by which crossings are found, added and counted. Own rule: words of the code alone.
 use Rattle.std.specs.Prelude.{◌≡◌, ℕ, ◌<◌, ◌≤◌, true, false, List, [], ◌∷◌, ℤ, ◌+ℤ◌}
 use Rattle.std.specs.List.{All}
 use Rattle.press_fault.specs.Plane.{Spot}

@@ -1,4 +1,4 @@
--- The points of an arc from a place on.
+-- The points of an arc from a place on. Own rule: words of the code alone; Arc has the arc itself.
 use Rattle.std.specs.Prelude.{ℕ, ◌-◌, ℤ, List, ◌++◌, drop, map, Result, Ok, Err}
 use Rattle.press_fault.specs.Plane.{Spot}
 use Rattle.geo_path.specs.declared.arc.Circle.{Circle}

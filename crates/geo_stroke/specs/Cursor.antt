@@ -1,4 +1,4 @@
--- Where one is on a chain of segments. These words serve the contracts inside the crate alone.
+-- Where one is on a chain of segments. Own rule: these words serve the contracts inside the crate alone.
 use Rattle.std.specs.Prelude.{◌≡◌, ℕ, ◌+◌, ◌-◌, ◌<◌, ◌≤◌, List, Option, MatchOption, ◌∷◌}
 use Rattle.geo_stroke.specs.declared.dash.Dash.{Dash}
 use Rattle.geo_stroke.specs.Segment.{Segment}

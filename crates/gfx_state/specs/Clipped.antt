@@ -1,4 +1,4 @@
--- The regions of a clip, where it has any.
+-- The regions of a clip, where it has any. Own rule: how the code keeps them.
 use Rattle.std.specs.Prelude.{List, [], Option, Some, None}
 use Rattle.std.specs.declared.sync.Arc.{Arc}
 use Rattle.std.specs.declared.alloc.Global.{Global}

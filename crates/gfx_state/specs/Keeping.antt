@@ -1,4 +1,5 @@
--- What holds of every graphics state: the page is within its limits, its points are counted, and its marks are plain.
+-- What holds of every graphics state: the page is within its limits, its points are counted, and its marks are plain. Own
+-- rule: the limits.
 use Rattle.std.specs.Prelude.{◌≡◌, ◌≤◌, ◌*◌, ℕ, List, length, All}
 use Rattle.page_model.specs.Marking.{Marking}
 use Rattle.page_model.specs.Page.{HasKnownSource}

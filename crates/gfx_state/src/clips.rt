@@ -40,7 +40,8 @@ impl Gfx {
         Ok(())
     }
 
-    /// Whether the clip has fewer than 256 regions, so that it may be cut once more.
+    /// Whether the clip has fewer than 256 regions, so that it may be cut once more. Own rule: the
+    /// limit (PostScript Language Reference, third edition, 8.2 `clip` has none of its own).
     pub fn has_clip_room(&self) -> bool
         ensures { result ≡ nat_lt (length self.now.state.clip) 256 }
     {

@@ -58,7 +58,7 @@ impl Gfx {
     }
 
     /// Whether the page has room for one more mark of so many points: it has fewer than 1,000,000
-    /// marks, and would have at most 4,194,304 points.
+    /// marks, and would have at most 4,194,304 points. Own rule: both limits.
     pub fn has_room(&self, points: u64) -> bool
         ensures { result ≡ has_room self.now points }
     {

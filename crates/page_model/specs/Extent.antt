@@ -1,4 +1,4 @@
--- The least and the greatest height of what was looked at, as the code of reach gathers them.
+-- The least and the greatest height of what was looked at, as the code of reach gathers them. Own rule: words of the code alone.
 use Rattle.std.specs.Prelude.{◌≡◌, ℕ, min, pos, negsuc, ◌<◌, ◌≤◌, ◌^◌, Bool, false, ◌||◌, ◌↔◌, IsTrue, Option, Some, None, ℤ, int_le, unsigned_abs}
 use Rattle.page_model.specs.Inside.{centre}
 

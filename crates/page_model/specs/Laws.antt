@@ -1,4 +1,4 @@
--- What the laws speak of.
+-- What the laws speak of. Own rule: words of the laws alone.
 use Rattle.std.specs.Prelude.{◌⊎◌, ℤ, pos, ◌*ℤ◌, ◌≤ℤ◌}
 
 -- q is the greatest whole number with d q ≤ n

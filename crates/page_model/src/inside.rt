@@ -7,7 +7,8 @@ use crate::{Ring, Rule};
 use press_fault::Point;
 use press_nums::Wide;
 
-/// The centre of a row or a column, in sub-dots. Its number may be any that a `u32` has.
+/// The centre of a row or a column, in sub-dots. Its number may be any that a `u32` has. Own rule: a
+/// dot has 256 sub-dots a side, and its centre stands for the whole of it.
 pub fn centre_of(k: u32) -> Wide
     ensures value { result ≡ centre k }
     ensures bound { IsWithin result }
@@ -29,7 +30,8 @@ fn crosses_at_left(low: Point, high: Point, px: Wide, py: Wide) -> bool
     ))
 }
 
-/// The product of two differences of coordinates, both in sub-dots.
+/// The product of two differences of coordinates, both in sub-dots, exact. Own rule: crossings are
+/// compared by products, and never by a rounded quotient.
 pub fn product_of_differences(a: Wide, b: Wide) -> Wide
     requires a { unsigned_abs a < 2 ^ 46 }
     requires b { unsigned_abs b < 2 ^ 46 }
@@ -56,7 +58,8 @@ fn turn(from: Point, to: Point, px: Wide, py: Wide) -> Wide
 }
 
 /// Whether a height is at `a` or above it, and below `b`: an edge from `a` to `b` crosses it rising. All
-/// three are in sub-dots.
+/// three are in sub-dots. Own rule: an edge holds its upper end and not its lower one, so that a
+/// corner counts once (PostScript Language Reference, third edition, 4.5 Painting leaves this open).
 pub fn is_between(a: Wide, b: Wide, height: Wide) -> bool
     ensures { result ≡ in_range a b height }
 {

@@ -1,4 +1,4 @@
--- What a status tells of the inputs, whatever the shelf tells.
+-- What a status tells of the inputs, whatever the shelf tells. Own rule: the statuses are the program's own.
 use Rattle.std.specs.Prelude.{◌≡◌, ◌≤◌, ◌+◌, ℕ}
 use Rattle.press_fault.specs.declared.outcome.Status.{Status}
 use Rattle.press_fault.specs.declared.outcome.Status.TheVariants.{Usage, ReadFault, TooLong}

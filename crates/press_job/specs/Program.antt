@@ -1,4 +1,4 @@
--- What a program means on pages of a size: what the interpreter says.
+-- What a program means on pages of a size: what the interpreter says. Own rule: its end as a status.
 use Rattle.std.specs.Prelude.{ℕ, List, Option, Some, None}
 use Rattle.press_fault.specs.declared.outcome.Status.{Status}
 use Rattle.press_fault.specs.declared.outcome.Status.TheVariants.{Done, Ps, NoMemory}

@@ -1,4 +1,4 @@
--- What graphics operators work on.
+-- What graphics operators work on. Own rule: the operands, and the graphics state with its page.
 use Rattle.std.specs.Prelude.{List}
 use Rattle.ps_store.specs.declared.obj.Obj.{Obj}
 use Rattle.gfx_state.specs.Graphics.{Graphics}

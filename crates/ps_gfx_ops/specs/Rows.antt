@@ -1,4 +1,5 @@
--- The rows of the graphics operators: what each does to the operands, the store, the graphics state and the page.
+-- The rows of the graphics operators: what each does to the operands, the store, the graphics state and the page (PostScript
+-- Language Reference, third edition, 8.2 Operator Details). Own rule: the order of refusals.
 use Rattle.std.specs.Prelude.{List, Bool, true, false}
 use Rattle.page_model.specs.declared.shape.Rule.TheVariants.{Nonzero, EvenOdd}
 use Rattle.ps_store.specs.declared.obj.Obj.{Obj}

@@ -1,4 +1,4 @@
--- What graphics operators work on where they also read or make composites.
+-- What graphics operators work on where they also read or make composites. Own rule: an easel beside the store.
 use Rattle.std.specs.Prelude.{List}
 use Rattle.ps_store.specs.declared.obj.Obj.{Obj}
 use Rattle.ps_store.specs.Outcome.{Outcome, Goes, Refuses}

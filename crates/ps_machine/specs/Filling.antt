@@ -1,4 +1,4 @@
--- systemdict as it is filled.
+-- systemdict as it is filled. Own rule: two empty dictionaries, then the operators in order.
 use Rattle.std.specs.Prelude.{List, [], ◌∷◌, unwrap_or}
 use Rattle.std.specs.List.{fold}
 use Rattle.ps_store.specs.declared.obj.Obj.TheVariants.{Oper as Operator}

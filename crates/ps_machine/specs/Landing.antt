@@ -1,4 +1,4 @@
--- What a call answered is where an error goes.
+-- What a call answered is where an error goes. Own rule: words of the code alone; Errors has the rule.
 use Rattle.std.specs.Prelude.{◌≡◌, List, Option, Some, None}
 use Rattle.ps_store.specs.declared.obj.Obj.{Obj}
 use Rattle.ps_flow.specs.declared.level.Level.{Level}

@@ -1,4 +1,4 @@
--- Many objects at once, between strings, arrays and the operands.
+-- Many objects at once, between strings, arrays and the operands. Own rule: from the first place to the last.
 use Rattle.std.specs.Prelude.{ℕ, ◌+◌, ◌*◌, List, [], ◌∷◌, length, map, pos, Option, Some, None, if◌then◌else◌}
 use Rattle.std.specs.List.{range_with_len}
 use Rattle.ps_store.specs.declared.obj.Obj.{Obj}

@@ -1,4 +1,4 @@
--- Being one key is an equivalence, and keys that are one are hashed alike.
+-- Being one key is an equivalence, and keys that are one are hashed alike. Own rule: laws, with their proofs.
 use Rattle.std.specs.Prelude.{◌≡◌, true, false}
 use Rattle.std.proofs.Common.{ap, sym, refl, true≢false}
 use Rattle.std.specs.Cmp.{IsEquivalence, int_eq_equiv, bool_eq_equiv, on_equiv, signed_Decides}

@@ -1,4 +1,4 @@
--- Objects turned round in their list, each from its old place straight to its new one.
+-- Objects turned round in their list, each from its old place straight to its new one. Own rule: words of the code alone.
 use Rattle.std.specs.Prelude.{◌≡◌, ℕ, ◌+◌, ◌<◌, ◌≤◌, Bool, true, false, List, slice_index_or}
 use Rattle.ps_store.specs.declared.obj.Obj.{Obj}
 
