@@ -1,5 +1,5 @@
 //! The pen that a stroke is painted with, by the line parameters and the matrix.
-ghost use Rattle.std.specs.Prelude.{◌≡◌, ◌≢◌, ◌≤◌, ◌<◌, ◌^◌, ◌↔◌, ◌*ℤ◌, ◌≤ℤ◌, pos, true, map, unsigned_abs, Some, None, Err, IfOk, IfSome, IsErrOf};
+ghost use Rattle.std.specs.Prelude.{◌≡◌, ◌≢◌, ◌≤◌, ◌<◌, ◌^◌, ◌↔◌, ◌*ℤ◌, ◌≤ℤ◌, pos, true, map, unsigned_abs, Some, None, Err, IfOk, IfSome, IsErrOf, IsTrue, ◌&&◌};
 ghost use Rattle.std.specs.List.{list_all};
 ghost use Rattle.press_nums.specs.Rounding.{div_round};
 ghost use Rattle.gfx_state.specs.Lines.{IsDashArray};
@@ -20,7 +20,7 @@ pub(crate) fn pen(alloc: Global, m: &Matrix, line: &LineStyle) -> Result<Pen, Gr
 {
     let scale = scale(m);
     let lengths = line.lengths();
-    if !is_short(scale, line.offset) || !are_short(scale, lengths) {
+    if !are_lengths_short(scale, line) {
         return Err(Grow::LimitCheck);
     }
     let Some(half) = half(width(scale, line.width)) else {
@@ -35,6 +35,21 @@ pub(crate) fn pen(alloc: Global, m: &Matrix, line: &LineStyle) -> Result<Pen, Gr
         dashes,
         offset: length(scale, line.offset).narrow(),
     })
+}
+
+/// Whether the pen of line parameters under a matrix is in range, so that `pen` doesn't refuse it.
+pub(crate) fn has_pen(m: &Matrix, line: &LineStyle) -> bool
+    ensures { IsTrue result ↔ (pen_of m.now line.now ≢ None) }
+{
+    let scale = scale(m);
+    are_lengths_short(scale, line) && half(width(scale, line.width)).is_some()
+}
+
+/// Whether the offset and all dashes and gaps are of a magnitude below 2^62.
+fn are_lengths_short(scale: u64, line: &LineStyle) -> bool
+    ensures { result ≡ (is_short scale line.now.offset && list_all (is_short scale) line.now.dashes) }
+{
+    is_short(scale, line.offset) && are_short(scale, line.lengths())
 }
 
 /// How many dots a unit of user space is long, by 1/65536, rounded down.

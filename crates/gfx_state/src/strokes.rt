@@ -1,10 +1,10 @@
 //! Strokes of paths.
-ghost use Rattle.std.specs.Prelude.{◌≡◌, Some, None, Err, OnOk, OnErr, IfOk};
+ghost use Rattle.std.specs.Prelude.{◌≡◌, ◌≢◌, ◌↔◌, Some, None, Err, OnOk, OnErr, IfOk, IsTrue};
 ghost use Rattle.gfx_state.specs.Graphics.{stroke_of, stroked, stroked_along};
 ghost use Rattle.gfx_state.specs.Stroke.{pen_of};
 
 use crate::gfx::Gfx;
-use crate::pen::pen;
+use crate::pen::{has_pen, pen};
 use crate::state::State;
 use geo_path::Path;
 use geo_stroke::outline;
@@ -16,10 +16,11 @@ impl Gfx {
     /// Strokes the path and empties it.
     ///
     /// One mark of the shapes of all subpaths, none where there are no shapes. It is refused where
-    /// the width is 2^31 sub-dots or more, a dash or the offset 2^62 counts of 1/65536 of a dot,
-    /// also without a path; with more than 65,536 dashes; and where the page has no room for the
-    /// mark. The first two are told before any memory is taken. A refusal leaves all as it was
-    /// (PostScript Language Reference, third edition, 8.2 `stroke`).
+    /// the pen is out of range (`has_pen`), also without a path; with more than 65,536 dashes; and
+    /// where the page has no room for the mark. The pen is asked before any memory is taken; dashes
+    /// and points are counted as the outline is made, so where there is no memory that is told in
+    /// place of their refusal. A refusal leaves all as it was (PostScript Language Reference, third
+    /// edition, 8.2 `stroke`).
     pub fn mark_stroke(&mut self) -> Result<(), Grow>
         ensures ok { OnOk result (stroked self.old ≡ Some self.new) }
         ensures limit { result ≡ Err Grow.LimitCheck → stroked self.old ≡ None }
@@ -44,6 +45,15 @@ impl Gfx {
         let shapes = stroke(self.alloc, &self.state, path)?;
         self.mark_shapes(shapes)?;
         Ok(())
+    }
+
+    /// Whether the pen is in range, so that a stroke isn't refused for it: its width is below 2^31
+    /// sub-dots, the offset and each dash and gap below 2^62 counts of 1/65536 of a dot. Own rule:
+    /// both limits.
+    pub fn has_pen(&self) -> bool
+        ensures { IsTrue result ↔ (pen_of self.now.state.matrix self.now.state.line ≢ None) }
+    {
+        has_pen(&self.state.matrix, &self.state.line)
     }
 }
 

@@ -90,10 +90,5 @@ setdash_row operands s g =
     or_refusal (dash_operands operands s) (λ d. unless_refused (dash_fault d.lengths)
     (Goes (record { operands = drop 2 operands; graphics = with_dash g d.lengths d.offset })))
 
--- what of this is asked before any memory is: whether the operands are dashes and an offset
-abbrev pub setdash_start : List Obj → Kept → Graphics → Outcome Easel
-setdash_start operands s g =
-    or_refusal (dash_operands operands s) (λ d. Goes (record { operands = operands; graphics = g }))
-
 abbrev pub currentlinewidth_row : List Obj → Graphics → Outcome Easel
 currentlinewidth_row operands g = on_easel g (pushed (Real g.state.line.width) operands)

@@ -13,6 +13,7 @@ use Rattle.ps_store.specs.declared.obj.Obj.{Obj}
 use Rattle.ps_store.specs.Numbers.{raw_of}
 use Rattle.ps_store.specs.Outcome.{Outcome, Goes, or_limit, or_refusal}
 use Rattle.gfx_state.specs.Graphics.{Graphics, painted, stroked_along, clipped_to, with_path, no_path}
+use Rattle.gfx_state.specs.Stroke.{pen_of}
 use Rattle.ps_gfx_ops.specs.Easel.{Easel}
 
 -- four corners in device space, where each is in range
@@ -55,10 +56,11 @@ rectstroke_row operands g =
     or_refusal (one_rectangle g.state.matrix operands) (λ ring. or_limit (stroked_along g (path_along ring)) (λ page.
     Goes (record { operands = drop 4 operands; graphics = page })))
 
--- what of this is asked before any memory is: whether the operands are a rectangle
+-- what of this is asked before any memory is: whether the operands are a rectangle, and then whether the pen is in range
 abbrev pub rectstroke_start : List Obj → Graphics → Outcome Easel
 rectstroke_start operands g =
-    or_refusal (one_rectangle g.state.matrix operands) (λ ring. Goes (record { operands = operands; graphics = g }))
+    or_refusal (one_rectangle g.state.matrix operands) (λ ring. or_limit (pen_of g.state.matrix g.state.line) (λ pen.
+    Goes (record { operands = operands; graphics = g })))
 
 -- the current path is empty then
 abbrev pub rectclip_row : List Obj → Graphics → Outcome Easel

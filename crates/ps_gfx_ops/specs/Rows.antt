@@ -12,7 +12,7 @@ use Rattle.gfx_state.specs.Graphics.{Graphics, erased, restored, all_restored, w
 use Rattle.ps_gfx_ops.specs.Scene.{Scene, beside}
 use Rattle.ps_gfx_ops.specs.States.{gsave_row}
 use Rattle.ps_gfx_ops.specs.Colours.{currentgray_row, setgray_row, setrgbcolor_row, setcmykcolor_row}
-use Rattle.ps_gfx_ops.specs.Lines.{setlinewidth_row, setmiterlimit_row, setlinecap_row, setlinejoin_row, setdash_row, setdash_start, currentlinewidth_row}
+use Rattle.ps_gfx_ops.specs.Lines.{setlinewidth_row, setmiterlimit_row, setlinecap_row, setlinejoin_row, setdash_row, currentlinewidth_row}
 use Rattle.ps_gfx_ops.specs.Matrices.{matrix_row, currentmatrix_row, setmatrix_row, concat_row, translate_row, scale_row, rotate_row, transform_row, itransform_row}
 use Rattle.ps_gfx_ops.specs.Paths.{moveto_row, lineto_row, rmoveto_row, rlineto_row, curveto_row, rcurveto_row, arc_row, currentpoint_row, fill_row, stroke_row, stroke_start, clip_row}
 use Rattle.ps_gfx_ops.specs.Devices.{setpagedevice_row}
@@ -95,10 +95,9 @@ takes_memory OnGfx.Rectstroke = true
 takes_memory OnGfx.Rectclip = true
 takes_memory op = false
 
--- What is asked before any memory is: the whole row, but that dashes are taken out of their array before they are asked, and
--- that the dashes and points of an outline aren't counted before it is made.
+-- What is asked before any memory is: the whole row, but that the dashes and points of an outline aren't counted before it is
+-- made.
 abbrev pub row_before_memory : GfxOp → List Obj → Kept → Graphics → Outcome Scene
-row_before_memory OnGfx.Setdash operands s g = beside s (setdash_start operands s g)
 row_before_memory OnGfx.Stroke operands s g = beside s (stroke_start operands g)
 row_before_memory OnGfx.Rectstroke operands s g = beside s (rectstroke_start operands g)
 row_before_memory op operands s g = gfx_row op operands s g

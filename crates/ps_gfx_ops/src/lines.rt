@@ -1,13 +1,16 @@
 //! Operators on the line parameters.
 ghost use Rattle.std.specs.Prelude.{◌≡◌, ◌≢◌, ◌≤◌, OnOk, IfOk, Err, length, map};
+ghost use Rattle.std.specs.List.{list_any, list_all};
+ghost use Rattle.gfx_state.specs.Lines.{dash_fault, is_negative, is_zero, is_blank};
 ghost use Rattle.ps_store.specs.Outcome.{Answers, TellsRefusal};
-ghost use Rattle.ps_gfx_ops.specs.Lines.{one_integer, number_in, setlinewidth_row, setmiterlimit_row, setlinecap_row, setlinejoin_row, setdash_row, setdash_start, currentlinewidth_row};
+ghost use Rattle.ps_gfx_ops.specs.Lines.{one_integer, number_in, dash_error, setlinewidth_row, setmiterlimit_row, setlinecap_row, setlinejoin_row, setdash_row, currentlinewidth_row};
 
 use crate::matrices::are_numbers;
 use crate::points::one_number;
+use geo_stroke::MAX_DASHES;
 use gfx_state::{DashFault, Gfx};
 use press_fault::{Mem, PsName, RangeCheck, UndefinedResult};
-use press_nums::{Fix, Whole};
+use press_nums::{Fix, Whole, Wide};
 use ps_store::{Obj, OpFault, Stack, Store, number};
 use std::alloc::Global;
 
@@ -103,7 +106,7 @@ pub(crate) fn setdash(
     ensures answers { Answers (setdash_row stack.old store.now gfx.old) result
         (record { operands = stack.old; graphics = gfx.old })
         (record { operands = stack.new; graphics = gfx.new }) }
-    ensures refused_at_first { TellsRefusal (setdash_start stack.old store.now gfx.old) result }
+    ensures refused { TellsRefusal (setdash_row stack.old store.now gfx.old) result }
 {
     let Some((offset, dashes)) = stack.top_two() else {
         return Err(OpFault::Ps(PsName::StackUnderflow));
@@ -118,6 +121,9 @@ pub(crate) fn setdash(
     let Some(offset) = number(offset) else {
         return Err(OpFault::Ps(PsName::TypeCheck));
     };
+    if let Some(fault) = dash_fault(objects) {
+        return Err(refusal(fault));
+    }
     let Ok(lengths) = numbers(alloc, objects) else {
         return Err(OpFault::NoMemory);
     };
@@ -126,10 +132,55 @@ pub(crate) fn setdash(
             stack.drop_top(2);
             Ok(())
         }
-        Err(DashFault::RangeCheck) => Err(OpFault::Ps(PsName::RangeCheck)),
-        Err(DashFault::LimitCheck) => Err(OpFault::Ps(PsName::LimitCheck)),
-        Err(DashFault::NoMemory) => Err(OpFault::NoMemory),
+        Err(fault) => Err(refusal(fault)),
     }
+}
+
+/// What a refusal of dashes is to an operator.
+fn refusal(fault: DashFault) -> OpFault
+    ensures named { fault ≢ DashFault.NoMemory → result ≡ OpFault.Ps (dash_error fault) }
+    ensures memory { fault ≡ DashFault.NoMemory → result ≡ OpFault.NoMemory }
+{
+    match fault {
+        DashFault::RangeCheck => OpFault::Ps(PsName::RangeCheck),
+        DashFault::LimitCheck => OpFault::Ps(PsName::LimitCheck),
+        DashFault::NoMemory => OpFault::NoMemory,
+    }
+}
+
+/// Why the numbers that objects are would be refused as dashes. It takes no memory.
+fn dash_fault(objects: &[Obj]) -> Option<DashFault>
+    ensures { result ≡ dash_fault (map number_in objects.now) }
+{
+    if has_negative(objects) || are_blank(objects) {
+        Some(DashFault::RangeCheck)
+    } else if objects.len() > MAX_DASHES {
+        Some(DashFault::LimitCheck)
+    } else {
+        None
+    }
+}
+
+/// Whether a number is below 0.
+fn has_negative(objects: &[Obj]) -> bool
+    ensures { result ≡ list_any is_negative (map number_in objects.now) }
+{
+    objects
+        .iter()
+        .any(|o| number_or_zero(o).wide().is_below(Wide::ZERO))
+}
+
+/// Whether there are numbers, and all of them are 0.
+fn are_blank(objects: &[Obj]) -> bool
+    ensures { result ≡ is_blank (map number_in objects.now) }
+{
+    !objects.is_empty() && are_zero(objects)
+}
+
+fn are_zero(objects: &[Obj]) -> bool
+    ensures { result ≡ list_all is_zero (map number_in objects.now) }
+{
+    objects.iter().all(|o| number_or_zero(o).wide().is_zero())
 }
 
 /// The numbers that objects are, 0 for one that is none.

@@ -128,6 +128,9 @@ pub(crate) fn rectstroke(alloc: Global, stack: &mut Stack, gfx: &mut Gfx) -> Res
     ensures refused_at_first { TellsRefusal (rectstroke_start stack.old gfx.old) result }
 {
     let points = one_rectangle(&gfx.matrix(), stack)?;
+    if !gfx.has_pen() {
+        return Err(OpFault::Ps(PsName::LimitCheck));
+    }
     let Ok(path) = path_along(alloc, &points) else {
         return Err(OpFault::NoMemory);
     };

@@ -25,9 +25,8 @@ use std::alloc::Global;
 /// Does what a graphics operator does, exactly as its row says. After a refusal operands, store and
 /// graphics are as before; after out of memory they are only good to be dropped.
 ///
-/// What the row refuses is told as that, also where there is no memory; but for `setdash`, whose
-/// lengths are taken out of their array before they are asked, and for `stroke` and `rectstroke`,
-/// whose outline is made before its dashes and points are counted.
+/// What the row refuses is told as that, also where there is no memory; but for `stroke` and
+/// `rectstroke`, whose outline is made before its dashes and points are counted.
 #[tactic(auto, using(crate::proofs::Beside::besides, crate::proofs::Beside::told, crate::proofs::Beside::told_without_memory), unfolding(crate::specs::Rows::gfx_row))]
 pub fn run_gfx(
     alloc: Global,

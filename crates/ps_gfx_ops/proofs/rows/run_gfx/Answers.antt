@@ -1,13 +1,8 @@
-use Rattle.ps_gfx_ops.specs.Lines.{setdash_start}
 use Rattle.ps_gfx_ops.specs.Paths.{stroke_start}
 use Rattle.ps_gfx_ops.specs.Rectangles.{rectstroke_start}
 use Rattle.ps_gfx_ops.specs.Rows.{gfx_row}
 use Rattle.ps_gfx_ops.proofs.Beside.{told}
 use Rattle.ps_gfx_ops.proofs.rows.run_gfx.Goals as goal
-
-pub returns-in-Setdash-clause-refused : goal.returns-in-Setdash-clause-refused
-returns-in-Setdash-clause-refused c =
-    rw c.in-Setdash.is (told c.args.store.now (setdash_start c.args.stack.now c.args.store.now c.args.gfx.now) c.setdash.result c.setdash.ensures.refused_at_first)
 
 pub returns-in-Matrix-clause-refused : goal.returns-in-Matrix-clause-refused
 unfolding gfx_row
