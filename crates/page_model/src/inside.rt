@@ -16,7 +16,7 @@ pub fn centre_of(k: u32) -> Wide
     Wide::of(256 * i64::from(k) + 128)
 }
 
-/// Whether the line from the lower end to the higher one crosses the height `py` at or left of `px`.
+/// Whether the line from the end of lesser y to the other one crosses the height `py` at or left of `px`.
 #[tactic(auto, unfolding(crate::specs::Inside::crosses_left))]
 fn crosses_at_left(low: Point, high: Point, px: Wide, py: Wide) -> bool
     requires px { IsWithin px }
@@ -57,9 +57,9 @@ fn turn(from: Point, to: Point, px: Wide, py: Wide) -> Wide
     }
 }
 
-/// Whether a height is at `a` or above it, and below `b`: an edge from `a` to `b` crosses it rising. All
-/// three are in sub-dots. Own rule: an edge holds its upper end and not its lower one, so that a
-/// corner counts once (PostScript Language Reference, third edition, 4.5 Painting leaves this open).
+/// Whether `a <= height < b`: an edge from `a` to `b` crosses that height on its way down the page. All
+/// three are in sub-dots. Own rule: an edge holds its upper end (its lesser y) and not its lower one, so
+/// that a corner counts once (PostScript Language Reference, third edition, 4.5 Painting leaves this open).
 pub fn is_between(a: Wide, b: Wide, height: Wide) -> bool
     ensures { result ≡ in_range a b height }
 {

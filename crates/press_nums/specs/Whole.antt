@@ -1,4 +1,4 @@
--- The integers of a program (PostScript Language Reference, third edition, 3.3.2 Numeric Objects).
+-- The integers of a program (PostScript Language Reference, third edition, 3.3 Data Types and Objects).
 -- Own rule: an integer has 32 bits, so the range doesn't depend on the machine.
 use Rattle.std.specs.Prelude.{ℕ, ℤ, pos, negsuc, ◌-ℤ◌, ◌≤ℤ◌, ◌<ℤ◌, ◌^◌, ◌-◌, ◌==◌, ◌&&◌, unsigned_abs, int_le, int_lt, int_div, int_rem, nat_lt, Bool, Option, Some, None, if◌then◌else◌}
 use Rattle.std.specs.Int.{int_rem_euclid}

@@ -8,7 +8,7 @@ use crate::wide::Wide;
 use std::marker::Model;
 
 /// A number of 1/65536, from -2^47 to 2^47 - 1 of them: a real number of a program, whose form
-/// the standard leaves open (PostScript Language Reference, third edition, 3.3.2 Numeric
+/// the standard leaves open (PostScript Language Reference, third edition, 3.3 Data Types and
 /// Objects).
 #[derive(Clone, Copy, Debug, PartialEq, Eq, Hash)]
 pub struct Fix {

@@ -6,7 +6,7 @@ use crate::wide::Wide;
 use std::marker::Model;
 
 /// An integer of 32 bits, which contracts see as a whole number (PostScript Language Reference,
-/// third edition, 3.3.2 Numeric Objects).
+/// third edition, 3.3 Data Types and Objects).
 #[derive(Clone, Copy, Debug, PartialEq, Eq, Hash)]
 pub struct Whole {
     n: i32,

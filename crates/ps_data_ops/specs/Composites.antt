@@ -1,6 +1,6 @@
 -- Operators on strings and arrays (PostScript Language Reference, third edition, 8.2).
--- Own rule: the cases stand in the order in which an operator refuses: too few operands last, types
--- before them, then the conditions from the outside to the inside.
+-- Own rule: an operator refuses too few operands first, then types, then conditions, from the outside
+-- to the inside. A row's last cases are those of types and of too few operands.
 use Rattle.std.specs.Prelude.{ℕ, ℤ, pos, ◌+◌, false, ◌&&◌, List, [], ◌∷◌, ◌++◌, Option, Some, None, length, reverse, take, drop, int_le, nat_le, unsigned_abs, if◌then◌else◌}
 use Rattle.std.specs.List.{position_from}
 use Rattle.press_fault.specs.declared.names.PsName.TheVariants.{StackUnderflow, StackOverflow, TypeCheck, LimitCheck, UnmatchedMark}

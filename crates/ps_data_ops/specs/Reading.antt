@@ -1,6 +1,6 @@
 -- Reading from the program's own text (PostScript Language Reference, third edition, 8.2
--- currentfile, readstring, readhexstring), from behind the last token on. Own rules: hexadecimal
--- digits are paired, other bytes are skipped, and a last digit without a partner gives no byte.
+-- currentfile, readstring, readhexstring), from behind the last token on. Own rule: a last
+-- hexadecimal digit without a partner gives no byte.
 use Rattle.std.specs.Prelude.{ℕ, ◌*◌, ◌==◌, List, ◌∷◌, length, take, drop, min, if◌then◌else◌}
 use Rattle.press_fault.specs.declared.names.PsName.TheVariants.{StackUnderflow, TypeCheck, RangeCheck}
 use Rattle.ps_scan.specs.Place.{Place}

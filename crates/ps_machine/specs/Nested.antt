@@ -1,5 +1,5 @@
--- Procedures of the text that aren't closed yet, the innermost first (PostScript Language Reference, third edition, 3.2.4
--- Procedures). Own rule: one element over the limit is enough to refuse them.
+-- Procedures of the text that aren't closed yet, the innermost first (PostScript Language Reference, third edition, 3.2
+-- Syntax, Procedures). Own rule: one element over the limit is enough to refuse them.
 use Rattle.std.specs.Prelude.{◌≡◌, List, [], ◌∷◌, ◌++◌, Option, Some, None, reverse, length, nat_lt, if◌then◌else◌}
 use Rattle.ps_store.specs.declared.obj.Obj.{Obj}
 

@@ -1,4 +1,5 @@
--- Tokens (PostScript Language Reference, third edition, 3.2 Syntax).
+-- Tokens (PostScript Language Reference, third edition, 3.2 Syntax). Own rules: the limits of names, of
+-- strings and of nesting; white space behind a bracket is consumed, as behind a name.
 use Rattle.std.specs.Prelude.{◌≡◌, ℕ, ◌==◌, ◌<◌, ◌≤◌, Bool, true, false, not, ◌||◌, List, [], ◌∷◌, length, drop}
 use Rattle.std.specs.List.{filter}
 use Rattle.ps_scan.specs.Characters.{is_hex, is_hex_or_white, is_greater, pairs, is_white, is_line_end, is_regular, begins, IsRun, white_after}

@@ -1,4 +1,4 @@
--- Integers in decimal (PostScript Language Reference, third edition, 3.2 Syntax, Numbers).
+-- Integers in decimal (PostScript Language Reference, third edition, 3.2 Syntax, Numbers). Own rule: 32 bits.
 use Rattle.std.specs.Prelude.{◌≡◌, ℕ, ◌+◌, ◌*◌, ◌-◌, ◌^◌, Bool, true, false, ◌&&◌, List, [], ◌∷◌, ◌++◌, length, if◌then◌else◌, nat_le, nat_lt}
 use Rattle.std.specs.List.{list_all, fold}
 use Rattle.press_nums.specs.Decimal.{signed}

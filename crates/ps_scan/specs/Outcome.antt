@@ -1,4 +1,5 @@
--- What the front of a text holds (PostScript Language Reference, third edition, 3.2 Syntax).
+-- What the front of a text holds (PostScript Language Reference, third edition, 3.2 Syntax). Own rule: a
+-- fault leaves the text where it was.
 use Rattle.std.specs.Prelude.{◌≡◌, ◌≤◌, ◌<◌, ℕ, ◌+◌, ◌-◌, List, [], length}
 use Rattle.ps_scan.specs.declared.token.Token.{Token}
 use Rattle.ps_scan.specs.declared.token.Token.TheVariants.{Int, Real, Literal, Exec, Now, Text, Open, Close, End}

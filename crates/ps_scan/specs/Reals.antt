@@ -1,4 +1,5 @@
--- Reals (PostScript Language Reference, third edition, 3.2 Syntax, Numbers).
+-- Reals (PostScript Language Reference, third edition, 3.2 Syntax, Numbers). Own rules: how many digits a
+-- mantissa and an exponent may have, and that a real is rounded to 1/65536 once.
 use Rattle.std.specs.Prelude.{◌≡◌, ℕ, ◌+◌, ◌<◌, ◌==◌, ℤ, pos, ◌-ℤ◌, Bool, true, false, ◌&&◌, ◌||◌, List, [], ◌∷◌, ◌++◌, length, Option, Some, None, if◌then◌else◌, nat_le}
 use Rattle.std.specs.List.{list_all}
 use Rattle.press_nums.specs.Decimal.{signed, decimal_of}

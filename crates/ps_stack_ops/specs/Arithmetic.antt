@@ -1,7 +1,7 @@
 -- Arithmetic and mathematical operators (PostScript Language Reference, third edition, 8.1 Operator
 -- Summary, and each operator's page in 8.2), from the lower operand to the one on top.
 -- Own rules: an integer stays an integer, so a result out of its range is undefinedresult and no
--- real number; real numbers are 16.16, and a result out of their range is undefinedresult too.
+-- real number; real numbers count 1/65536, and a result out of their range is undefinedresult too.
 use Rattle.std.specs.Prelude.{ℤ, pos, neg_ℤ, ◌+ℤ◌, ◌-ℤ◌, ◌*ℤ◌, unsigned_abs, int_lt, Option, Some, None, Result, Ok, Err, if◌then◌else◌}
 use Rattle.press_nums.specs.Whole.{whole_of, whole_quotient_of, whole_rest_of}
 use Rattle.press_nums.specs.Fix.{fix_of, product_of, quotient_of, ceiling_of, floor_of, nearest_of, truncation_of, fix_root_of}

@@ -1,5 +1,5 @@
--- Numeric operands (PostScript Language Reference, third edition, 3.3.2 Numeric Objects). A real
--- number is given by its raw value, its count of 1/65536.
+-- Numeric operands (PostScript Language Reference, third edition, 3.3 Data Types and Objects). Own
+-- rule: a real number is given by its raw value, its count of 1/65536.
 use Rattle.std.specs.Prelude.{ℤ, Option, Some, None, Result, Ok, Err}
 use Rattle.press_fault.specs.declared.names.PsName.{PsName}
 use Rattle.press_fault.specs.declared.names.PsName.TheVariants.{TypeCheck, UndefinedResult}

@@ -1,4 +1,4 @@
-//! Numeric operands (PostScript Language Reference, third edition, 3.3.2 Numeric Objects).
+//! Numeric operands (PostScript Language Reference, third edition, 3.3 Data Types and Objects).
 ghost use Rattle.std.specs.Prelude.{◌≡◌};
 ghost use Rattle.ps_stack_ops.specs.Numbers.{pair_of, integer, real};
 

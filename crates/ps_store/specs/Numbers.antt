@@ -1,4 +1,4 @@
--- What operators read off the numbers of a program (PostScript Language Reference, third edition, 3.3.2 Numeric Objects).
+-- What operators read off the numbers of a program (PostScript Language Reference, third edition, 3.3 Data Types and Objects).
 use Rattle.std.specs.Prelude.{ℕ, ℤ, Option, Some, None, pos, int_le, ◌&&◌, unsigned_abs, nat_lt, if◌then◌else◌, ◌*ℤ◌}
 use Rattle.ps_store.specs.declared.obj.Obj.{Obj}
 use Rattle.ps_store.specs.declared.obj.Obj.TheVariants.{Int, Real}

@@ -1,7 +1,7 @@
 -- The operators (PostScript Language Reference, third edition, 8.1 Operator Summary).
 -- Own rule: an operator's number is its place, from 0, in the table of all 145 operators of this
 -- interpreter, in the order: operands, arithmetic, values and composites, control, input, graphics state,
--- matrices, paths, painting, pages. So a number stays when operators are added.
+-- matrices, paths, painting, pages, fonts. So a number stays when operators are added.
 use Rattle.std.specs.Prelude.{ℕ, Bool, true, ◌&&◌, nat_lt, List, [], ◌∷◌, codes}
 use Rattle.ps_store.specs.declared.oper.StackOp.{StackOp}
 use Rattle.ps_store.specs.declared.oper.DataOp.{DataOp}
