@@ -1,5 +1,5 @@
 -- Device colour spaces and the codes of colours (PostScript Language Reference, third edition, 4.8.2 Device Color Spaces).
--- Own rule: a colour component is taken into 0 to 1 and becomes a code of 8 bits, rounded once; the dots are made of these.
+-- Own rule: a colour component, taken into 0 to 1, becomes a code of 8 bits, rounded once; the dots are made of these.
 use Rattle.std.specs.Prelude.{ℕ, ℤ, pos, ◌+◌, ◌*◌, ◌-◌, ◌*ℤ◌, int_lt, unsigned_abs, List, [], ◌∷◌, ◌++◌, length, map, min, replicate, slice_index, if◌then◌else◌}
 use Rattle.press_nums.specs.Rounding.{div_round}
 use Rattle.press_fault.specs.Plane.{Channels}

@@ -1,7 +1,7 @@
 -- Operators on dictionaries and on what has a length (PostScript Language Reference, third edition,
--- 8.2; 3.7.5 Standard Dictionaries: systemdict is read-only). Own rules: names, strings, numbers and
--- booleans are keys; a string of over 127 bytes is no name, so what defines it is refused by
--- limitcheck, and what looks it up doesn't find it; dictionary 0 is systemdict.
+-- 8.2; 3.7.5 Standard and User-Defined Dictionaries: systemdict is read-only). Own rules: names,
+-- strings, numbers and booleans are keys; a string of over 127 bytes is no name, so what defines it is
+-- refused by limitcheck, and what looks it up doesn't find it; dictionary 0 is systemdict.
 use Rattle.std.specs.Prelude.{◌≡◌, ◌≢◌, ℕ, pos, ◌+◌, ◌%◌, ◌==◌, ◌||◌, Bool, true, false, List, [], ◌∷◌, Option, Some, None, Result, Ok, Err, length, reverse, take, drop, nat_le, nat_lt, if◌then◌else◌}
 use Rattle.std.specs.Option.{is_some}
 use Rattle.std.specs.List.{position_from}

@@ -1,5 +1,6 @@
 -- The operators on the execution stack (PostScript Language Reference, third edition, 8.2 Operator Details), each by
--- its operands, the top first: enough of them, then their types, then the operator's own conditions.
+-- its operands, the top first. Own rules: enough of them, then their types, then the operator's own conditions; at most
+-- 250 levels; a forall keeps the contents at its start.
 use Rattle.std.specs.Prelude.{ℕ, ℤ, Bool, true, false, List, [], ◌∷◌, length, Option, Some, None, pos, int_lt, unsigned_abs, map, if◌then◌else◌}
 use Rattle.std.specs.List.{range_with_len}
 use Rattle.press_fault.specs.declared.names.PsName.TheVariants.{StackUnderflow, TypeCheck, RangeCheck, InvalidExit}

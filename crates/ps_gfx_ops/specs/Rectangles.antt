@@ -1,5 +1,5 @@
--- Rectangles (PostScript Language Reference, third edition, 8.2 Operator Details: rectfill, rectstroke, rectclip). Own rules:
--- both sums are asked before any point; the first two leave the path as it is.
+-- Rectangles (PostScript Language Reference, third edition, 8.2 Operator Details: rectfill, rectstroke, rectclip). Own rule:
+-- both sums are asked before any point.
 use Rattle.std.specs.Prelude.{ℤ, ◌+ℤ◌, true, List, [], ◌∷◌, drop, map, Option, Some, Result, Ok, Err}
 use Rattle.press_nums.specs.Fix.{fix_of}
 use Rattle.press_fault.specs.Plane.{Spot}

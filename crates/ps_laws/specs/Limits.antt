@@ -1,6 +1,6 @@
 -- The limits of the stacks (PostScript Language Reference, third edition, 3.4 Stacks, and Appendix B
--- Implementation Limits). Own rules: the numbers, and that systemdict and userdict stay at the bottom of
--- the dictionary stack.
+-- Implementation Limits). Own rules: the numbers, and that two dictionaries at least stay on the
+-- dictionary stack.
 use Rattle.std.specs.Prelude.{◌≤◌, length}
 use Rattle.ps_machine.specs.State.{State}
 use Rattle.ps_machine.specs.Errors.{Step, Goes, Shows, Ends}

@@ -1,6 +1,6 @@
 -- The spans and dictionaries of a state are of its store (PostScript Language Reference, third edition,
 -- 3.7 Memory Management). Own rule: a span or a dictionary is of a store of m composites where its number
--- is below m.
+-- is below m; of which kind that composite is, and whether the span lies within it, isn't asked.
 use Rattle.std.specs.Prelude.{◌≤◌, ◌<◌, ℕ, List, [], ◌∷◌, length, Option, Some, None}
 use Rattle.ps_store.specs.declared.obj.Obj.{Obj}
 use Rattle.ps_store.specs.declared.obj.Obj.TheVariants.{Text, Array, Dict}
@@ -45,7 +45,7 @@ abbrev pub IsWaitingOf : ℕ → Option Obj → Type 0
 IsWaitingOf m (Some o) = IsOf m o
 IsWaitingOf m None = Unit {0}
 
--- all that a state holds is of its store, which has systemdict and userdict
+-- all that a state holds is of its store, which has two composites at least
 pub record IsStored (s : State) : Type 0 where
   pub standard : 2 ≤ length s.store.made
   pub composites : Each (HoldsOf (length s.store.made)) s.store.made

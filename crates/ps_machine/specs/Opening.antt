@@ -1,4 +1,4 @@
--- The dictionaries that a program finds (PostScript Language Reference, third edition, 3.7.5 Standard Dictionaries).
+-- The dictionaries that a program finds (PostScript Language Reference, third edition, 3.7.5 Standard and User-Defined Dictionaries).
 -- Own rules: systemdict has the operators that are built, in the order of their numbers; its entries count in the
 -- store like all others.
 use Rattle.std.specs.Prelude.{◌*◌, [], ◌∷◌, length, map}
