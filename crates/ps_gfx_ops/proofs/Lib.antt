@@ -1,2 +1,4 @@
 pub mod Beside
 pub mod PathFaults
+mod Strokes
+mod Folding

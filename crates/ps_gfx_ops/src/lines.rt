@@ -1,7 +1,7 @@
 //! Operators on the line parameters.
-ghost use Rattle.std.specs.Prelude.{◌≡◌, ◌≢◌, ◌≤◌, OnOk, IfOk, Err, length, map};
+ghost use Rattle.std.specs.Prelude.{◌≡◌, ◌≢◌, ◌≤◌, ◌&&◌, nat_lt, OnOk, IfOk, Err, length, map};
 ghost use Rattle.std.specs.List.{list_any, list_all};
-ghost use Rattle.gfx_state.specs.Lines.{dash_fault, is_negative, is_zero, is_blank};
+ghost use Rattle.gfx_state.specs.Lines.{dash_fault, is_negative, is_zero};
 ghost use Rattle.ps_store.specs.Outcome.{Answers, TellsRefusal};
 ghost use Rattle.ps_gfx_ops.specs.Lines.{one_integer, number_in, dash_error, setlinewidth_row, setmiterlimit_row, setlinecap_row, setlinejoin_row, setdash_row, currentlinewidth_row};
 
@@ -149,6 +149,7 @@ fn refusal(fault: DashFault) -> OpFault
 }
 
 /// Why the numbers that objects are would be refused as dashes. It takes no memory.
+#[tactic(auto, using(crate::proofs::Folding::fault_of_numbers))]
 fn dash_fault(objects: &[Obj]) -> Option<DashFault>
     ensures { result ≡ dash_fault (map number_in objects.now) }
 {
@@ -163,7 +164,7 @@ fn dash_fault(objects: &[Obj]) -> Option<DashFault>
 
 /// Whether a number is below 0.
 fn has_negative(objects: &[Obj]) -> bool
-    ensures { result ≡ list_any is_negative (map number_in objects.now) }
+    ensures { result ≡ list_any (λ o. is_negative (number_in o)) objects.now }
 {
     objects
         .iter()
@@ -172,13 +173,13 @@ fn has_negative(objects: &[Obj]) -> bool
 
 /// Whether there are numbers, and all of them are 0.
 fn are_blank(objects: &[Obj]) -> bool
-    ensures { result ≡ is_blank (map number_in objects.now) }
+    ensures { result ≡ (nat_lt 0 (length objects.now) && list_all (λ o. is_zero (number_in o)) objects.now) }
 {
     !objects.is_empty() && are_zero(objects)
 }
 
 fn are_zero(objects: &[Obj]) -> bool
-    ensures { result ≡ list_all is_zero (map number_in objects.now) }
+    ensures { result ≡ list_all (λ o. is_zero (number_in o)) objects.now }
 {
     objects.iter().all(|o| number_or_zero(o).wide().is_zero())
 }
