@@ -1,13 +1,14 @@
 -- The integers of a program (PostScript Language Reference, third edition, 3.3 Data Types and Objects).
 -- Own rule: an integer has 32 bits, so the range doesn't depend on the machine.
-use Rattle.std.specs.Prelude.{ℕ, ℤ, pos, negsuc, ◌-ℤ◌, ◌≤ℤ◌, ◌<ℤ◌, ◌^◌, ◌-◌, ◌==◌, ◌&&◌, unsigned_abs, int_le, int_lt, int_div, int_rem, nat_lt, Bool, Option, Some, None, if◌then◌else◌}
+use Rattle.std.specs.Prelude.{ℕ, ℤ, pos, negsuc, ◌-ℤ◌, ◌≤ℤ◌, ◌<ℤ◌, ◌^◌, ◌-◌, ◌==◌, ◌&&◌, unsigned_abs, int_le, int_lt}
+use Rattle.std.specs.Prelude.{int_div, int_rem, nat_lt, Bool, Option, Some, None, if◌then◌else◌}
 use Rattle.std.specs.Int.{int_rem_euclid}
 
--- a whole number that lies in 32 bits, with a sign
+-- an integer of a program: from -2^31 to 2^31 - 1
 abbrev pub IsWhole : ℤ → Type 0
 IsWhole n = (negsuc (2 ^ 31 - 1) ≤ℤ n) × (n <ℤ pos (2 ^ 31))
 
--- the same, as a test
+-- whether a number is an integer of a program
 abbrev pub is_whole : ℤ → Bool
 is_whole n = int_le (negsuc (2 ^ 31 - 1)) n && int_lt n (pos (2 ^ 31))
 
@@ -15,7 +16,7 @@ is_whole n = int_le (negsuc (2 ^ 31 - 1)) n && int_lt n (pos (2 ^ 31))
 abbrev pub whole_of : ℤ → Option ℤ
 whole_of n = if is_whole n then Some n else None
 
--- the quotient, truncated to zero; there is none by zero
+-- the quotient, truncated to zero; none by zero and out of range
 abbrev pub whole_quotient_of : ℤ → ℤ → Option ℤ
 whole_quotient_of n d = if unsigned_abs d == 0 then None else whole_of (int_div n d)
 
