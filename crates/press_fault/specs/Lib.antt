@@ -1,4 +1,4 @@
 pub mod Plane
 pub mod Names
-pub mod Held
 pub mod Outcome
+pub mod Code

@@ -13,9 +13,9 @@ pub struct Point {
 }
 
 impl Model for Point {
-    ghost use Rattle.press_fault.specs.Plane.{Spot, IsOnPlane};
+    ghost use Rattle.press_fault.specs.Plane.{PointValue, IsOnPlane};
 
-    ghost Value = { Spot };
+    ghost Value = { PointValue };
 
     ghost view = { λ p. record { x = p.x; y = p.y } };
 
@@ -72,9 +72,9 @@ pub struct Code {
 }
 
 impl Model for Code {
-    ghost use Rattle.press_fault.specs.Plane.{Channels, IsCode};
+    ghost use Rattle.press_fault.specs.Plane.{CodeValue, IsCode};
 
-    ghost Value = { Channels };
+    ghost Value = { CodeValue };
 
     ghost view = { λ code. record { n = code.n; c = code.c } };
 
