@@ -3,7 +3,7 @@ use Rattle.std.specs.Prelude.{◌≡◌, ℕ, ◌*◌, ◌<◌, ◌≤◌, ◌^�
 
 -- A map from dots to samples, with a PostScript matrix's names and one denominator: the centre of the
 -- dot in column j and row i lies at ((a (2j+1) + c (2i+1) + tx) / den, (b (2j+1) + d (2i+1) + ty) / den).
-pub record Affine : Type 0 where
+pub record ImageMapValue : Type 0 where
   pub a : ℤ
   pub b : ℤ
   pub c : ℤ
@@ -13,7 +13,7 @@ pub record Affine : Type 0 where
   pub den : ℤ
 
 -- Own rule: these magnitudes hold every matrix of a program, and keep the map's sums below 2^123.
-pub record IsAffine (m : Affine) : Type 0 where
+pub record IsImageMap (m : ImageMapValue) : Type 0 where
   pub a : unsigned_abs m.a < 2 ^ 88
   pub b : unsigned_abs m.b < 2 ^ 88
   pub c : unsigned_abs m.c < 2 ^ 88
@@ -25,13 +25,13 @@ pub record IsAffine (m : Affine) : Type 0 where
 
 -- An image: rows of samples of 8 bits a channel, its source profile if it has one, the map from dots
 -- to samples, and the heights on the page between which it lies, in sub-dots, both included.
-pub record Picture : Type 0 where
+pub record ImageValue : Type 0 where
   pub width : ℕ
   pub rows : ℕ
   pub channels : ℕ
   pub source : Option ℕ
   pub codes : List ℕ
-  pub map : Affine
+  pub map : ImageMapValue
   pub low : ℤ
   pub high : ℤ
 

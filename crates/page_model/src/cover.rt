@@ -2,11 +2,14 @@
 ghost use Rattle.std.specs.Prelude.{◌≡◌, ◌<◌, ◌≤◌, ◌^◌, ◌+◌, ◌-◌, ◌*◌, ℕ, List, min, ◌*ℤ◌, unsigned_abs, All, reverse};
 ghost use Rattle.std.specs.List.{find, list_any, list_all};
 ghost use Rattle.std.specs.Option.{option_copied};
-ghost use Rattle.press_fault.specs.Plane.{Channels};
+ghost use Rattle.press_fault.specs.Plane.{CodeValue};
 ghost use Rattle.page_model.specs.Marking.{painting_of, IsSuited};
 ghost use Rattle.page_model.specs.Page.{HasKnownSource, IsNumbered, ink_source};
 ghost use Rattle.page_model.specs.Sample.{code_at};
-ghost use Rattle.page_model.specs.Cover.{covers_dot, shape_holds, region_holds, disc_holds, image_holds, plain_rgb, dot_rgb, mark_rgb, ink_rgb, sample_ink, InkHasChannels, ImageHasChannels, HasChannels};
+ghost use Rattle.page_model.specs.declared.page.Depth.{Depth};
+ghost use Rattle.page_model.specs.Cover.{covers_dot, shape_holds, region_holds, disc_holds, image_holds, plain_rgb};
+ghost use Rattle.page_model.specs.Cover.{dot_rgb, mark_rgb, ink_rgb, sample_ink, InkHasChannels, ImageHasChannels};
+ghost use Rattle.page_model.specs.Cover.{HasChannels};
 
 use crate::inside::{centre_of, do_rings_hold};
 use crate::sample::{code_at, mask_paints, sample_at};
@@ -98,7 +101,7 @@ pub trait Table {
     ghost channels: { Self → ℕ → ℕ };
 
     /// The colour of a source's code.
-    ghost tint: { Self → ℕ → Channels → List ℕ };
+    ghost tint: { Self → ℕ → CodeValue → List ℕ };
 
     /// The red, green and blue, from 0 to 255, of a source's code.
     fn colour(&self, source: u32, code: Code) -> [u8; 3]
@@ -130,13 +133,13 @@ fn light(ink: u8, black: u8) -> u8
     255 - ink.saturating_add(black)
 }
 
-/// The red, green and blue, from 0 to 255, of the last mark that covers a dot; white where none
-/// does.
+/// The red, green and blue at a depth of 8 bits, so from 0 to 255, of the last mark that covers a
+/// dot; white where none does.
 #[tactic(auto, unfolding(crate::specs::Cover::dot_rgb))]
 pub fn plain_dot<T: Table>(page: &Page, row: u32, col: u32, table: &T) -> [u8; 3]
     requires sources { page.now.sources ≤ T.sources table.now }
     requires channels { All (HasChannels (T.channels table.now)) page.now.marks }
-    ensures { result ≡ dot_rgb (T.tint table.now) page.now.marks row col }
+    ensures { result ≡ dot_rgb Depth.Eight (T.tint table.now) page.now.marks row col }
 {
     match topmost(page.marks.items(), row, col) {
         Some(mark) => mark_colour(mark, row, col, table),
@@ -155,7 +158,7 @@ fn topmost(marks: &[Mark], row: u32, col: u32) -> Option<&Mark>
 fn mark_colour<T: Table>(mark: &Mark, row: u32, col: u32, table: &T) -> [u8; 3]
     requires sources { HasKnownSource (T.sources table.now) mark.now }
     requires channels { HasChannels (T.channels table.now) mark.now }
-    ensures { result ≡ mark_rgb (T.tint table.now) row col mark.now }
+    ensures { result ≡ mark_rgb Depth.Eight (T.tint table.now) row col mark.now }
 {
     match &mark.paint {
         Paint::Flat(ink) => ink_colour(*ink, table),
@@ -172,7 +175,7 @@ fn sample_colour<T: Table>(image: &Image, sample: u32, table: &T) -> [u8; 3]
     requires sample { sample < image.now.width * image.now.rows }
     requires sources { IsNumbered (T.sources table.now) image.now.source }
     requires channels { ImageHasChannels (T.channels table.now) image.now.channels image.now.source }
-    ensures { result ≡ ink_rgb (T.tint table.now) (sample_ink image.now.source (code_at image.now sample)) }
+    ensures { result ≡ ink_rgb Depth.Eight (T.tint table.now) (sample_ink image.now.source (code_at image.now sample)) }
 {
     let code = code_at(image, sample);
     match image.source {
@@ -184,7 +187,7 @@ fn sample_colour<T: Table>(image: &Image, sample: u32, table: &T) -> [u8; 3]
 fn ink_colour<T: Table>(ink: Ink, table: &T) -> [u8; 3]
     requires sources { IsNumbered (T.sources table.now) (ink_source ink) }
     requires channels { InkHasChannels (T.channels table.now) ink }
-    ensures { result ≡ ink_rgb (T.tint table.now) ink }
+    ensures { result ≡ ink_rgb Depth.Eight (T.tint table.now) ink }
 {
     match ink {
         Ink::Plain(code) => plain_rule(code),

@@ -1,10 +1,11 @@
 //! The rows of a page that a mark reaches.
 ghost use Rattle.std.specs.Prelude.{◌≡◌, ◌<◌, ◌≤◌, ◌^◌, ◌||◌, ℤ, unsigned_abs, int_le};
 ghost use Rattle.std.specs.List.{list_any};
-ghost use Rattle.press_fault.specs.Plane.{Spot};
+ghost use Rattle.press_fault.specs.Plane.{PointValue};
 ghost use Rattle.page_model.specs.Marking.{painting_of};
-ghost use Rattle.page_model.specs.Reach.{IsReach, starts_by, ends_from, image_starts_by, image_ends_from, mark_starts_by, mark_ends_from};
-ghost use Rattle.page_model.specs.Extent.{IsGrown, IsFirstRow, IsEndRow, nearest_within};
+ghost use Rattle.page_model.specs.Reach.{IsReach, starts_by, ends_from, image_starts_by, image_ends_from};
+ghost use Rattle.page_model.specs.Reach.{mark_starts_by, mark_ends_from};
+ghost use Rattle.page_model.specs.Code.Extent.{IsGrown, IsFirstRow, IsEndRow, nearest_within};
 
 use crate::{Image, Mark, Paint, Ring, Shape};
 use press_fault::Point;
@@ -19,13 +20,13 @@ struct Extent {
 }
 
 impl Model for Extent {
-    ghost use Rattle.page_model.specs.Extent.{Heights, IsHeights};
+    ghost use Rattle.page_model.specs.Code.Extent.{ExtentValue, IsExtent};
 
-    ghost Value = { Heights };
+    ghost Value = { ExtentValue };
 
     ghost view = { λ e. record { top = e.top; bottom = e.bottom } };
 
-    ghost invariant = { λ e. IsHeights e.top e.bottom };
+    ghost invariant = { λ e. IsExtent e.top e.bottom };
 
     ghost inverse = { λ v. record { top = v.top; bottom = v.bottom } };
 }
@@ -86,7 +87,8 @@ fn extent_of(mark: &Mark) -> Option<Extent>
 }
 
 fn with_paint(so_far: Option<Extent>, paint: &Paint) -> Option<Extent>
-    ensures { IsGrown so_far result (λ y. image_starts_by y (painting_of paint.now)) (λ y. image_ends_from y (painting_of paint.now)) }
+    ensures { IsGrown so_far result (λ y. image_starts_by y (painting_of paint.now))
+        (λ y. image_ends_from y (painting_of paint.now)) }
 {
     match paint {
         Paint::Flat(_) => so_far,
@@ -125,8 +127,8 @@ fn with_shape(so_far: Option<Extent>, shape: &Shape) -> Option<Extent>
 
 fn with_rings(mut so_far: Option<Extent>, rings: &[Ring]) -> Option<Extent>
     ensures { IsGrown so_far result
-        (λ y. list_any (list_any (λ (p : Spot). int_le p.y y)) rings.now)
-        (λ y. list_any (list_any (λ (p : Spot). int_le y p.y)) rings.now) }
+        (λ y. list_any (list_any (λ (p : PointValue). int_le p.y y)) rings.now)
+        (λ y. list_any (list_any (λ (p : PointValue). int_le y p.y)) rings.now) }
 {
     for ring in rings {
         so_far = with_ring(so_far, ring);
@@ -136,16 +138,16 @@ fn with_rings(mut so_far: Option<Extent>, rings: &[Ring]) -> Option<Extent>
 
 fn with_ring(so_far: Option<Extent>, ring: &Ring) -> Option<Extent>
     ensures { IsGrown so_far result
-        (λ y. list_any (λ (p : Spot). int_le p.y y) ring.now)
-        (λ y. list_any (λ (p : Spot). int_le y p.y) ring.now) }
+        (λ y. list_any (λ (p : PointValue). int_le p.y y) ring.now)
+        (λ y. list_any (λ (p : PointValue). int_le y p.y) ring.now) }
 {
     with_points(so_far, ring.items())
 }
 
 fn with_points(mut so_far: Option<Extent>, points: &[Point]) -> Option<Extent>
     ensures { IsGrown so_far result
-        (λ y. list_any (λ (p : Spot). int_le p.y y) points.now)
-        (λ y. list_any (λ (p : Spot). int_le y p.y) points.now) }
+        (λ y. list_any (λ (p : PointValue). int_le p.y y) points.now)
+        (λ y. list_any (λ (p : PointValue). int_le y p.y) points.now) }
 {
     for point in points {
         so_far = with_point(so_far, *point);

@@ -77,13 +77,22 @@ pub struct ImageMap {
 }
 
 impl Model for ImageMap {
-    ghost use Rattle.page_model.specs.Image.{Affine, IsAffine};
+    ghost use Rattle.page_model.specs.Image.{ImageMapValue, IsImageMap};
 
-    ghost Value = { Affine };
+    ghost Value = { ImageMapValue };
 
     ghost view = { λ m. record { a = m.a; b = m.b; c = m.c; d = m.d; tx = m.tx; ty = m.ty; den = m.den } };
 
-    ghost invariant = { λ m. IsAffine (record { a = m.a; b = m.b; c = m.c; d = m.d; tx = m.tx; ty = m.ty; den = m.den }) };
+    ghost invariant = { λ m. IsImageMap (record {
+      a = m.a;
+      b = m.b;
+      c = m.c;
+      d = m.d;
+      tx = m.tx;
+      ty = m.ty;
+      den =
+          m.den;
+    }) };
 
     ghost inverse = { λ v. record { a = v.a; b = v.b; c = v.c; d = v.d; tx = v.tx; ty = v.ty; den = v.den } };
 }
@@ -107,11 +116,21 @@ pub struct Image {
 }
 
 impl Model for Image {
-    ghost use Rattle.page_model.specs.Image.{Picture, IsImage};
+    ghost use Rattle.page_model.specs.Image.{ImageValue, IsImage};
 
-    ghost Value = { Picture };
+    ghost Value = { ImageValue };
 
-    ghost view = { λ i. record { width = i.width; rows = i.rows; channels = i.channels; source = i.source; codes = i.codes; map = i.map; low = i.low; high = i.high } };
+    ghost view = { λ i. record {
+      width = i.width;
+      rows = i.rows;
+      channels = i.channels;
+      source = i.source;
+      codes =
+          i.codes;
+      map = i.map;
+      low = i.low;
+      high = i.high;
+    } };
 
     ghost invariant = { λ i. IsImage i.width i.rows i.channels i.codes };
 }

@@ -1,7 +1,8 @@
 //! The winding number of rings at a point, and what a rule makes of it.
 ghost use Rattle.std.specs.Prelude.{◌≡◌, ◌≤◌, ◌<◌, ◌^◌, ◌+◌, ◌*◌, ℤ, length, unsigned_abs, int_le, ◌+ℤ◌, ◌-ℤ◌, ◌*ℤ◌};
 ghost use Rattle.press_fault.specs.Plane.{IsWithin};
-ghost use Rattle.page_model.specs.Inside.{centre, crosses_left, turn_of, ring_winding, winding, rings_hold, is_between as in_range};
+ghost use Rattle.page_model.specs.Inside.{centre, crosses_left, turn_of, ring_winding, winding, rings_hold};
+ghost use Rattle.page_model.specs.Inside.{is_between as in_range};
 
 use crate::{Ring, Rule};
 use press_fault::Point;

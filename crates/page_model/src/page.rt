@@ -5,6 +5,7 @@ use std::marker::Model;
 #[derive(Clone, Copy, Debug, PartialEq, Eq)]
 pub enum Depth {
     Eight,
+    Sixteen,
 }
 
 /// A page: its size in dots, how many source profiles its codes go by, and its marks.
@@ -20,9 +21,9 @@ pub struct Page {
 }
 
 impl Model for Page {
-    ghost use Rattle.page_model.specs.Page.{Sheet, IsPage};
+    ghost use Rattle.page_model.specs.Page.{PageValue, IsPage};
 
-    ghost Value = { Sheet };
+    ghost Value = { PageValue };
 
     ghost view = { λ p. record { width = p.width; height = p.height; sources = p.sources; marks = p.marks } };
 

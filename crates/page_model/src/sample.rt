@@ -1,6 +1,7 @@
 //! The sample of a dot, and its code.
 ghost use Rattle.std.specs.Prelude.{◌≡◌, ◌+◌, ◌*◌, ◌<◌, ◌≤◌, ◌^◌, pos, ◌+ℤ◌, ◌*ℤ◌, ◌<ℤ◌, unsigned_abs, IfSome};
-ghost use Rattle.page_model.specs.Sample.{floor_quotient, column_at, row_at, place_of, sample_at, is_in_extent, value_at, code_at, mask_paints};
+ghost use Rattle.page_model.specs.Sample.{floor_quotient, column_at, row_at, place_of, sample_at, is_in_extent};
+ghost use Rattle.page_model.specs.Sample.{value_at, code_at, mask_paints};
 
 use crate::inside::centre_of;
 use crate::{Image, ImageMap};

@@ -1,4 +1,4 @@
-ghost use Rattle.std.specs.Prelude.{◌≡◌, ◌<◌, ◌^◌, [], ◌∷◌, ◌++◌, OnOk, OnErr, pos};
+ghost use Rattle.std.specs.Prelude.{◌≡◌, ◌<◌, ◌^◌, [], ◌∷◌, ◌++◌, OnOk, OnErr, IfOk, pos};
 ghost use Rattle.press_fault.specs.Plane.{IsWithin};
 
 use crate::Rings;
@@ -6,6 +6,7 @@ use press_fault::{Mem, Point};
 use press_nums::Wide;
 use std::alloc::Global;
 use std::marker::Model;
+use std::sync::Arc;
 
 /// The inside rule of a polygon (PostScript Language Reference, third edition, 4.5 Painting:
 /// the nonzero winding number rule and the even-odd rule).
@@ -24,9 +25,9 @@ pub struct Disc {
 }
 
 impl Model for Disc {
-    ghost use Rattle.page_model.specs.Disc.{Round, IsDisc};
+    ghost use Rattle.page_model.specs.Disc.{DiscValue, IsDisc};
 
-    ghost Value = { Round };
+    ghost Value = { DiscValue };
 
     ghost view = { λ d. record { x = d.x; y = d.y; r = d.r } };
 
@@ -105,6 +106,15 @@ impl Shapes {
         }
     }
 
+    /// No shapes yet, with room for so many, so that no memory is taken beyond it.
+    pub fn with_room(alloc: Global, shapes: usize) -> Mem<Self>
+        ensures { IfOk result (λ shapes. shapes ≡ []) }
+    {
+        Ok(Shapes {
+            shapes: Vec::with_capacity(alloc, shapes)?,
+        })
+    }
+
     /// Adds one at the end. Out of memory leaves the list as before.
     pub fn push(&mut self, item: Shape) -> Mem<()>
         ensures ok { OnOk result (self.new ≡ self.old ++ item ∷ []) }
@@ -122,11 +132,32 @@ impl Shapes {
     }
 }
 
-/// A part of a clip: closed rings and their inside rule.
+/// A part of a clip: closed rings and their inside rule. The rings are shared, so that a clip that is
+/// cut once more has no copy of them.
 #[derive(Drop)]
 pub struct Region {
     pub rule: Rule,
-    pub rings: Rings,
+    pub rings: Arc<Rings>,
+}
+
+impl Model for Region {
+    ghost use Rattle.page_model.specs.Marking.{RegionValue};
+
+    ghost Value = { RegionValue };
+
+    ghost view = { λ r. record { rule = r.rule; rings = r.rings.value } };
+}
+
+impl Region {
+    /// The same part of a clip, of the same rings.
+    pub fn share(&self) -> Mem<Region>
+        ensures { IfOk result (λ region. region ≡ self.now) }
+    {
+        Ok(Region {
+            rule: self.rule,
+            rings: Arc::try_clone(&self.rings)?,
+        })
+    }
 }
 
 /// The regions that a mark is cut to: a dot has to be in each of them.
@@ -137,9 +168,9 @@ pub struct Clip {
 
 impl Model for Clip {
     ghost use Rattle.std.specs.Prelude.{List};
-    ghost use Rattle.page_model.specs.declared.shape.Region.{Region};
+    ghost use Rattle.page_model.specs.Marking.{RegionValue};
 
-    ghost Value = { List Region };
+    ghost Value = { List RegionValue };
 
     ghost view = { λ c. c.regions.items };
 }
@@ -152,6 +183,15 @@ impl Clip {
         Clip {
             regions: Vec::new(alloc),
         }
+    }
+
+    /// No regions yet, with room for so many, so that no memory is taken beyond it.
+    pub fn with_room(alloc: Global, regions: usize) -> Mem<Self>
+        ensures { IfOk result (λ clip. clip ≡ []) }
+    {
+        Ok(Clip {
+            regions: Vec::with_capacity(alloc, regions)?,
+        })
     }
 
     /// Adds one at the end. Out of memory leaves the list as before.

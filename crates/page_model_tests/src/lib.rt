@@ -1,15 +1,20 @@
 //! Pages made by hand, compared dot by dot with what the rules of painting say.
-ghost use Rattle.std.specs.Prelude.{◌≡◌, ◌<◌, ◌≤◌, ◌*◌, ◌==◌, if◌then◌else◌, slice_index, [], ◌∷◌, ◌++◌, All, IfOk, Some, None, length};
-ghost use Rattle.press_fault.specs.Plane.{Channels};
+#![tactic(auto)]
+
+ghost use Rattle.std.specs.Prelude.{◌≡◌, ◌<◌, ◌≤◌, ◌*◌, ◌==◌, if◌then◌else◌, slice_index, [], ◌∷◌, ◌++◌, All, IfOk};
+ghost use Rattle.std.specs.Prelude.{Some, None, length};
+ghost use Rattle.press_fault.specs.Plane.{CodeValue};
 ghost use Rattle.page_model.specs.Marking.{painting_of, IsSuited, Flatly};
 ghost use Rattle.page_model.specs.Page.{HasKnownSource};
 ghost use Rattle.page_model.specs.Cover.{HasChannels};
 
-use super::*;
+use page_model::{
+    Bytes, Clip, Disc, Image, ImageMap, Ink, Mark, Marks, Page, Paint, Region, Ring, Rings, Rule,
+    Shape, Shapes, Table, plain_dot, plain_rule, point, reach,
+};
 use press_fault::{Code, Mem, Point};
 use press_nums::Wide;
 use std::alloc::Global;
-use std::process::Abort;
 use std::sync::Arc;
 use std::test::Fail;
 
@@ -22,7 +27,8 @@ impl Table for Swaps {
 
     ghost channels = { λ _ _. 3 };
 
-    ghost tint = { λ _ source code. if source == 0 then slice_index code.c 0 ∷ slice_index code.c 1 ∷ slice_index code.c 2 ∷ [] else slice_index code.c 2 ∷ slice_index code.c 1 ∷ slice_index code.c 0 ∷ [] };
+    ghost tint = { λ _ source code. if source == 0 then slice_index code.c 0 ∷ slice_index code.c 1
+        ∷ slice_index code.c 2 ∷ [] else slice_index code.c 2 ∷ slice_index code.c 1 ∷ slice_index code.c 0 ∷ [] };
 
     fn colour(&self, source: u32, code: Code) -> [u8; 3] {
         let [first, second, third, _] = code.c;
@@ -62,27 +68,20 @@ fn letters(alloc: Global, page: &Page) -> Mem<Vec<u8>>
     Ok(text)
 }
 
-fn ring(alloc: Global, corners: &[(u16, u16)]) -> Mem<Ring> {
-    let mut ring = Ring::new(alloc);
-    for (x, y) in corners {
-        ring.push(Point::new(i64::from(*x), i64::from(*y)))?;
-    }
-    Ok(ring)
+/// A polygon of one ring.
+fn polygon(alloc: Global, corners: &[Point]) -> Mem<Shape> {
+    Ok(Shape::Poly(Rings::one(alloc, Ring::of(alloc, corners)?)?))
 }
 
 /// The square from a corner to the opposite one, in dots.
-fn square(alloc: Global, from: u16, to: u16) -> Mem<Ring>
-    requires from { from ≤ 16 }
-    requires to { to ≤ 16 }
-{
-    let (a, b) = (256 * from, 256 * to);
-    ring(alloc, &[(a, b), (b, b), (b, a), (a, a)])
+fn square(alloc: Global, from: u8, to: u8) -> Mem<Ring> {
+    let (from, to) = (256 * i32::from(from), 256 * i32::from(to));
+    Ring::rectangle(alloc, point(from, to), point(to, from))
 }
 
-fn one(alloc: Global, ring: Ring) -> Mem<Rings> {
-    let mut rings = Rings::new(alloc);
-    rings.push(ring)?;
-    Ok(rings)
+/// The same as a shape.
+fn block(alloc: Global, from: u8, to: u8) -> Mem<Shape> {
+    Ok(Shape::Poly(Rings::one(alloc, square(alloc, from, to)?)?))
 }
 
 /// A mark of one shape in an ink.
@@ -93,7 +92,7 @@ fn filled(alloc: Global, rule: Rule, shape: Shape, clip: Clip, ink: Ink) -> Mem<
     shapes.push(shape)?;
     Ok(Mark {
         rule,
-        shapes,
+        shapes: Arc::new(alloc, shapes)?,
         clip: Arc::new(alloc, clip)?,
         paint: Paint::Flat(ink),
     })
@@ -150,81 +149,86 @@ fn shown(alloc: Global, width: u32, height: u32, mark: Mark) -> Mem<Vec<u8>>
     letters(alloc, &page)
 }
 
+/// A square cut along a diagonal: one half black, the other red.
+fn halved(alloc: Global) -> Mem<Vec<u8>> {
+    let (low, high) = (point(640, 896), point(128, 384));
+    let below = polygon(alloc, &[point(128, 896), low, high])?;
+    let above = polygon(alloc, &[low, point(640, 384), high])?;
+    let black = filled(alloc, Rule::Nonzero, below, Clip::new(alloc), BLACK)?;
+    let red = filled(alloc, Rule::Nonzero, above, Clip::new(alloc), RED)?;
+    letters(alloc, &page(alloc, 4, 4, black, red)?)
+}
+
 #[test]
 fn a_shared_edge_is_painted_once(rt: HostRuntime) -> Result<(), Fail> {
-    let alloc = rt.alloc();
-    let low = one(alloc, ring(alloc, &[(128, 896), (640, 896), (128, 384)])?)?;
-    let high = one(alloc, ring(alloc, &[(640, 896), (640, 384), (128, 384)])?)?;
-    let rule = Rule::Nonzero;
-    let black = filled(alloc, rule, Shape::Poly(low), Clip::new(alloc), BLACK)?;
-    let red = filled(alloc, rule, Shape::Poly(high), Clip::new(alloc), RED)?;
-    let text = letters(alloc, &page(alloc, 4, 4, black, red)?)?;
+    let text = halved(rt.alloc())?;
     assert_eq!(rt; text.as_slice(), b"WWWWRRWWBRWWWWWW".as_slice());
     Ok(())
 }
 
 /// A square of four dots with one of two dots inside it, going round the same way.
-fn nested(alloc: Global, rule: Rule) -> Mem<Mark>
-    ensures source { IfOk result (HasKnownSource 2) }
-    ensures channels { IfOk result (HasChannels (λ _. 3)) }
-{
-    let mut rings = Rings::new(alloc);
-    rings.push(square(alloc, 0, 4)?)?;
+fn nested(alloc: Global, rule: Rule) -> Mem<Vec<u8>> {
+    let mut rings = Rings::one(alloc, square(alloc, 0, 4)?)?;
     rings.push(square(alloc, 1, 3)?)?;
-    filled(alloc, rule, Shape::Poly(rings), Clip::new(alloc), BLACK)
+    let mark = filled(alloc, rule, Shape::Poly(rings), Clip::new(alloc), BLACK)?;
+    shown(alloc, 4, 4, mark)
 }
 
 #[test]
 fn nested_squares_show_the_rule(rt: HostRuntime) -> Result<(), Fail> {
-    let alloc = rt.alloc();
     let cases = [
         ("nonzero", Rule::Nonzero, b"BBBBBBBBBBBBBBBB"),
         ("even-odd", Rule::EvenOdd, b"BBBBBWWBBWWBBBBB"),
     ];
     for (name, rule, expected) in cases {
-        let text = shown(alloc, 4, 4, nested(alloc, rule)?)?;
-        assert_eq!(rt; text.as_slice(), expected.as_slice(), "{name}");
+        assert_eq!(rt;
+            nested(rt.alloc(), rule)?.as_slice(),
+            expected.as_slice(),
+            "{name}"
+        );
     }
     Ok(())
 }
 
+/// The region of a square.
+fn region(alloc: Global, (from, to): (u8, u8)) -> Mem<Region> {
+    Ok(Region {
+        rule: Rule::Nonzero,
+        rings: Arc::new(alloc, Rings::one(alloc, square(alloc, from, to)?)?)?,
+    })
+}
+
 /// A page of four by four black dots, clipped to two squares.
-fn clipped(alloc: Global, first: (u16, u16), second: (u16, u16)) -> Mem<Mark>
-    requires first_from { first.0 ≤ 16 }
-    requires first_to { first.1 ≤ 16 }
-    requires second_from { second.0 ≤ 16 }
-    requires second_to { second.1 ≤ 16 }
-    ensures source { IfOk result (HasKnownSource 2) }
-    ensures channels { IfOk result (HasChannels (λ _. 3)) }
-{
+fn clipped(alloc: Global, first: (u8, u8), second: (u8, u8)) -> Mem<Vec<u8>> {
     let mut clip = Clip::new(alloc);
-    for (from, to) in [first, second] {
-        clip.push(Region {
-            rule: Rule::Nonzero,
-            rings: one(alloc, square(alloc, from, to)?)?,
-        })?;
-    }
-    let all = Shape::Poly(one(alloc, square(alloc, 0, 4)?)?);
-    filled(alloc, Rule::Nonzero, all, clip, BLACK)
+    clip.push(region(alloc, first)?)?;
+    clip.push(region(alloc, second)?)?;
+    let mark = filled(alloc, Rule::Nonzero, block(alloc, 0, 4)?, clip, BLACK)?;
+    shown(alloc, 4, 4, mark)
 }
 
 #[test]
 fn a_clip_asks_each_of_its_regions(rt: HostRuntime) -> Result<(), Fail> {
-    let alloc = rt.alloc();
     let cases = [
         ("disjoint", (0, 1), (2, 3), b"WWWWWWWWWWWWWWWW"),
         ("overlapping", (0, 3), (2, 4), b"WWWWWWWWWWBWWWWW"),
     ];
     for (name, first, second, expected) in cases {
-        let text = shown(alloc, 4, 4, clipped(alloc, first, second)?)?;
+        let text = clipped(rt.alloc(), first, second)?;
         assert_eq!(rt; text.as_slice(), expected.as_slice(), "{name}");
     }
     Ok(())
 }
 
+/// A page of four by four dots with a red disc; the centre is on the diagonal.
+fn round(alloc: Global, middle: i32, r: u16) -> Mem<Vec<u8>> {
+    let disc = Shape::Disc(Disc::new(point(middle, middle), u64::from(r)));
+    let mark = filled(alloc, Rule::Nonzero, disc, Clip::new(alloc), RED)?;
+    shown(alloc, 4, 4, mark)
+}
+
 #[test]
 fn a_disc_holds_the_centres_within_its_radius(rt: HostRuntime) -> Result<(), Fail> {
-    let alloc = rt.alloc();
     let cases = [
         ("radius of a dot", 512, 256, b"WWWWWRRWWRRWWWWW"),
         ("centres on the circle", 640, 256, b"WWWWWWRWWRRRWWRW"),
@@ -232,9 +236,7 @@ fn a_disc_holds_the_centres_within_its_radius(rt: HostRuntime) -> Result<(), Fai
         ("no centre", 512, 181, b"WWWWWWWWWWWWWWWW"),
     ];
     for (name, middle, r, expected) in cases {
-        let disc = Shape::Disc(Disc::new(Point::new(middle, middle), r));
-        let mark = filled(alloc, Rule::Nonzero, disc, Clip::new(alloc), RED)?;
-        let text = shown(alloc, 4, 4, mark)?;
+        let text = round(rt.alloc(), middle, r)?;
         assert_eq!(rt; text.as_slice(), expected.as_slice(), "{name}");
     }
     Ok(())
@@ -277,28 +279,31 @@ fn placed(alloc: Global, paint: Paint) -> Mem<Mark>
 {
     Ok(Mark {
         rule: Rule::Nonzero,
-        shapes: Shapes::new(alloc),
+        shapes: Arc::new(alloc, Shapes::new(alloc))?,
         clip: Arc::new(alloc, Clip::new(alloc))?,
         paint,
     })
 }
 
-#[test]
-fn an_image_paints_only_the_rows_delivered(rt: HostRuntime) -> Result<(), Fail> {
-    let alloc = rt.alloc();
-    let red = Shape::Poly(one(alloc, square(alloc, 0, 9)?)?);
+/// An image of one row on a red page of two.
+fn one_row_of_two(alloc: Global) -> Mem<Vec<u8>> {
+    let red = block(alloc, 0, 9)?;
     let below = filled(alloc, Rule::Nonzero, red, Clip::new(alloc), RED)?;
     let codes = [255, 0, 255, 0, 255, 0, 255, 0, 255];
     let image = gray_row(alloc, &codes, None, halves(1, 0, 0, 1, 0, 0))?;
     let above = placed(alloc, Paint::Image(Arc::new(alloc, image)?))?;
-    let text = letters(alloc, &page(alloc, 9, 2, below, above)?)?;
+    letters(alloc, &page(alloc, 9, 2, below, above)?)
+}
+
+#[test]
+fn an_image_paints_only_the_rows_delivered(rt: HostRuntime) -> Result<(), Fail> {
+    let text = one_row_of_two(rt.alloc())?;
     assert_eq!(rt; text.as_slice(), b"WBWBWBWBWRRRRRRRRR".as_slice());
     Ok(())
 }
 
-#[test]
-fn an_image_is_turned_by_its_map(rt: HostRuntime) -> Result<(), Fail> {
-    let alloc = rt.alloc();
+/// Four samples, turned by a quarter and flipped.
+fn turned(alloc: Global) -> Mem<Vec<u8>> {
     let image = Image {
         width: 2,
         rows: 2,
@@ -310,8 +315,12 @@ fn an_image_is_turned_by_its_map(rt: HostRuntime) -> Result<(), Fail> {
         high: 768,
     };
     let mark = placed(alloc, Paint::Image(Arc::new(alloc, image)?))?;
-    let text = shown(alloc, 2, 2, mark)?;
-    assert_eq!(rt; text.as_slice(), b"CW8B".as_slice());
+    shown(alloc, 2, 2, mark)
+}
+
+#[test]
+fn an_image_is_turned_by_its_map(rt: HostRuntime) -> Result<(), Fail> {
+    assert_eq!(rt; turned(rt.alloc())?.as_slice(), b"CW8B".as_slice());
     Ok(())
 }
 
@@ -352,12 +361,16 @@ fn a_sample_is_where_the_centre_lies(rt: HostRuntime) -> Result<(), Fail> {
     Ok(())
 }
 
-#[test]
-fn a_mask_paints_where_it_is_255(rt: HostRuntime) -> Result<(), Fail> {
-    let alloc = rt.alloc();
+/// A red mask of a sample that paints and one that doesn't.
+fn masked(alloc: Global) -> Mem<Vec<u8>> {
     let mask = gray_row(alloc, &[255, 0], None, halves(1, 0, 0, 1, 0, 0))?;
     let mark = placed(alloc, Paint::Mask(Arc::new(alloc, mask)?, RED))?;
-    assert_eq!(rt; shown(alloc, 2, 1, mark)?.as_slice(), b"RW".as_slice());
+    shown(alloc, 2, 1, mark)
+}
+
+#[test]
+fn a_mask_paints_where_it_is_255(rt: HostRuntime) -> Result<(), Fail> {
+    assert_eq!(rt; masked(rt.alloc())?.as_slice(), b"RW".as_slice());
     Ok(())
 }
 
@@ -367,13 +380,14 @@ fn linked_fill(alloc: Global, source: u32) -> Mem<Vec<u8>>
 {
     let code = Code::rgb(255, 0, 0);
     let ink = Ink::Linked { source, code };
-    let all = Shape::Poly(one(alloc, square(alloc, 0, 1)?)?);
-    shown(
+    let mark = filled(
         alloc,
-        1,
-        1,
-        filled(alloc, Rule::Nonzero, all, Clip::new(alloc), ink)?,
-    )
+        Rule::Nonzero,
+        block(alloc, 0, 1)?,
+        Clip::new(alloc),
+        ink,
+    )?;
+    shown(alloc, 1, 1, mark)
 }
 
 /// A dot that an image paints red by a source.
@@ -430,7 +444,10 @@ fn ink(cyan: u8, magenta: u8, yellow: u8, black: u8) -> Code {
 
 /// A mark from one height to another, in sub-dots.
 fn between(alloc: Global, top: u16, bottom: u16) -> Mem<Mark> {
-    let shape = Shape::Poly(one(alloc, ring(alloc, &[(0, bottom), (9, top)])?)?);
+    let shape = polygon(
+        alloc,
+        &[point(0, i32::from(bottom)), point(9, i32::from(top))],
+    )?;
     filled(alloc, Rule::Nonzero, shape, Clip::new(alloc), BLACK)
 }
 
@@ -446,31 +463,48 @@ fn a_mark_reaches_the_rows_between_its_ends(rt: HostRuntime) -> Result<(), Fail>
         ("a page without rows", 0, 1024, 0, (0, 0)),
     ];
     for (name, top, bottom, height, expected) in cases {
-        let mark = between(rt.alloc(), top, bottom)?;
-        assert_eq!(rt; reach(&mark, height), expected, "{name}");
+        let found = reach(&between(rt.alloc(), top, bottom)?, height);
+        assert_eq!(rt; found, expected, "{name}");
     }
     Ok(())
 }
 
+/// The rows of four that a disc reaches, whose centre is two dots down.
+fn disc_reach(alloc: Global) -> Mem<(u32, u32)> {
+    let disc = Shape::Disc(Disc::new(point(0, 512), 128));
+    let mark = filled(alloc, Rule::Nonzero, disc, Clip::new(alloc), BLACK)?;
+    Ok(reach(&mark, 4))
+}
+
+/// The rows of four that an image reaches from one dot above the page to two dots down.
+fn image_reach(alloc: Global) -> Mem<(u32, u32)> {
+    let image = gray_row(alloc, &[0], None, halves(1, 0, 0, 1, 0, 0))?;
+    let mark = placed(alloc, Paint::Image(Arc::new(alloc, image)?))?;
+    Ok(reach(&mark, 4))
+}
+
 #[test]
 fn discs_and_images_have_their_own_reach(rt: HostRuntime) -> Result<(), Fail> {
-    let alloc = rt.alloc();
-    let disc = Shape::Disc(Disc::new(Point::new(0, 512), 128));
-    let disc = filled(alloc, Rule::Nonzero, disc, Clip::new(alloc), BLACK)?;
-    assert_eq!(rt; reach(&disc, 4), (1, 3));
-    let image = gray_row(alloc, &[0], None, halves(1, 0, 0, 1, 0, 0))?;
-    let image = placed(alloc, Paint::Image(Arc::new(alloc, image)?))?;
-    assert_eq!(rt; reach(&image, 4), (0, 2));
-    assert_eq!(rt; reach(&nothing(alloc)?, 4), (0, 0));
+    assert_eq!(rt; disc_reach(rt.alloc())?, (1, 3));
+    assert_eq!(rt; image_reach(rt.alloc())?, (0, 2));
+    assert_eq!(rt; reach(&nothing(rt.alloc())?, 4), (0, 0));
     Ok(())
+}
+
+/// Two bytes, one after the other.
+fn two_bytes(alloc: Global) -> Mem<Bytes> {
+    let mut bytes = Bytes::new(alloc);
+    bytes.push(1)?;
+    bytes.push(2)?;
+    Ok(bytes)
 }
 
 #[test]
 fn bytes_keep_their_order(rt: HostRuntime) -> Result<(), Fail> {
-    let mut bytes = Bytes::new(rt.alloc());
-    bytes.push(1)?;
-    bytes.push(2)?;
-    assert_eq!(rt; bytes.items(), [1, 2].as_slice());
-    assert_eq!(rt; bytes.into_vec().as_slice(), [1, 2].as_slice());
+    assert_eq!(rt; two_bytes(rt.alloc())?.items(), [1, 2].as_slice());
+    assert_eq!(rt;
+        two_bytes(rt.alloc())?.into_vec().as_slice(),
+        [1, 2].as_slice()
+    );
     Ok(())
 }
