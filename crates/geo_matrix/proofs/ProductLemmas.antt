@@ -4,7 +4,7 @@ use Rattle.std.specs.Prelude.{ℤ, pos, negsuc, ◌+ℤ◌, ◌*ℤ◌}
 use Rattle.std.proofs.lemmas.Int.{ints}
 use Rattle.press_nums.specs.Rounding.{div_round}
 use Rattle.press_nums.specs.Fix.{IsFix, is_fix}
-use Rattle.geo_matrix.specs.Affine.{Affine, IsAffine, affine_of, identity}
+use Rattle.geo_matrix.specs.Affine.{MatrixValue, IsMatrix, affine_of, identity}
 use Rattle.geo_matrix.specs.Product.{concat_of}
 
 rounded_whole : (n sum : ℤ) → sum ≡ n *ℤ pos 65536 → div_round sum (pos 65536) ≡ n
@@ -19,18 +19,34 @@ fix_is (pos n) h = grind (arith, ints)
 fix_is (negsuc n) h = grind (arith, ints)
 
 -- six real numbers that are those of a matrix
-matrix_is : (m : Affine) (a b c d tx ty : ℤ) → a ≡ m.a → b ≡ m.b → c ≡ m.c → d ≡ m.d → tx ≡ m.tx → ty ≡ m.ty → IsAffine m
+matrix_is : (m : MatrixValue) (a b c d tx ty : ℤ) → a ≡ m.a → b ≡ m.b → c ≡ m.c → d ≡ m.d → tx ≡ m.tx → ty ≡ m.ty →
+    IsMatrix m
     → affine_of (record { a = a; b = b; c = c; d = d; tx = tx; ty = ty }) ≡ Some m
 matrix_is m a b c d tx ty ea eb ec ed ex ey h =
-    rw (ea, eb, ec, ed, ex, ey, fix_is m.a h.a, fix_is m.b h.b, fix_is m.c h.c, fix_is m.d h.d, fix_is m.tx h.tx, fix_is m.ty h.ty) refl
+    rw (
+      ea,
+      eb,
+      ec,
+      ed,
+      ex,
+      ey,
+      fix_is m.a h.a,
+      fix_is m.b h.b,
+      fix_is m.c h.c,
+      fix_is m.d h.d,
+      fix_is m.tx h.tx,
+      fix_is m.ty h.ty,
+    ) refl
 
-pub identity_first : (m : Affine) → IsAffine m → concat_of identity m ≡ Some m
+-- the identity matrix first changes nothing
+pub identity_first : (m : MatrixValue) → IsMatrix m → concat_of identity m ≡ Some m
 identity_first m h = matrix_is m _ _ _ _ _ _
     (rounded_whole m.a _ (omega (arith, ints))) (rounded_whole m.b _ (omega (arith, ints)))
     (rounded_whole m.c _ (omega (arith, ints))) (rounded_whole m.d _ (omega (arith, ints)))
     (rounded_whole m.tx _ (omega (arith, ints))) (rounded_whole m.ty _ (omega (arith, ints))) h
 
-pub identity_then : (m : Affine) → IsAffine m → concat_of m identity ≡ Some m
+-- the identity matrix after another changes nothing
+pub identity_then : (m : MatrixValue) → IsMatrix m → concat_of m identity ≡ Some m
 identity_then m h = matrix_is m _ _ _ _ _ _
     (rounded_whole m.a _ (omega (arith, ints))) (rounded_whole m.b _ (omega (arith, ints)))
     (rounded_whole m.c _ (omega (arith, ints))) (rounded_whole m.d _ (omega (arith, ints)))

@@ -1,22 +1,21 @@
 -- Sine and cosine lie from -1 to 1, and the sine of half a turn more is the negative.
-use Rattle.std.proofs.Common.{◌≡◌, ℕ, zero, suc, ◌+◌, ◌-◌, ◌*◌, ◌%◌, ◌<◌, ◌≤◌, Bool, true, false, leb, arith, ap, sym, refl, ◌∙◌}
+use Rattle.std.proofs.Common.{◌≡◌, ℕ, zero, suc, ◌+◌, ◌-◌, ◌*◌, ◌%◌, ◌<◌, ◌≤◌, Bool, true, false, leb, arith, ap, sym}
+use Rattle.std.proofs.Common.{refl, ◌∙◌}
 use Rattle.std.specs.Prelude.{ℤ, pos, negsuc, neg_ℤ, ◌+ℤ◌, ◌*ℤ◌, ◌≤ℤ◌, unsigned_abs}
 use Rattle.std.specs.Int.{int_rem_euclid}
 use Rattle.std.proofs.lemmas.Int.{ints, int_rem_euclid_is}
 use Rattle.std.proofs.lemmas.Nat.{div_below}
 use Rattle.std.proofs.lemmas.Bool.{leb-true, leb-false, le-leb, lt-leb}
 use Rattle.std.proofs.Math.Nat.{mul-le-mul}
+use Rattle.proof_words.proofs.Cases.{by_bool}
 use Rattle.press_nums.specs.Rounding.{div_round}
-use Rattle.geo_matrix.specs.Sine.{one, step, arc_of, square_of, sine_sum, cosine_sum, sine_series, cosine_series, quarter_sine, half_sine, turn_sine, sine_of, cosine_of}
+use Rattle.geo_matrix.specs.Sine.{one, step, arc_of, square_of, sine_sum, cosine_sum, sine_series, cosine_series}
+use Rattle.geo_matrix.specs.Sine.{quarter_sine, half_sine, turn_sine, sine_of, cosine_of}
 
 -- from 0 to `most`
 record IsUpTo (most : ℕ) (z : ℤ) : Type 0 where
   low : pos 0 ≤ℤ z
   high : z ≤ℤ pos most
-
-by_bool : {P : Type 0} (b : Bool) → (b ≡ true → P) → (b ≡ false → P) → P
-by_bool true f g = f refl
-by_bool false f g = g refl
 
 rounded_up_to : (n d most : ℕ) → 0 < d → n ≤ most * d → IsUpTo most (div_round (pos n) (pos d))
 unfolding div_round
@@ -25,9 +24,11 @@ rounded_up_to n d most h e =
     record { low = omega (arith, ints); high = omega (arith, ints, small) }
 
 -- a product of two parts of 1, rounded to a part of 1
-product_up_to : (a b : ℤ) → IsUpTo 4294967296 a → IsUpTo 4294967296 b → (d : ℕ) → 4294967296 ≤ d → IsUpTo 4294967296 (div_round (a *ℤ b) (pos d))
+product_up_to : (a b : ℤ) → IsUpTo 4294967296 a → IsUpTo 4294967296 b → (d : ℕ) → 4294967296 ≤ d →
+    IsUpTo 4294967296 (div_round (a *ℤ b) (pos d))
 product_up_to (pos a) (pos b) h g d e =
-    let most : a * b ≤ 4294967296 * d = mul-le-mul {n₁ = a} {m₁ = b} {n₂ = 4294967296} {m₂ = d} (omega (arith, ints, h.high)) (omega (arith, ints, g.high, e)) in
+    let most : a * b ≤ 4294967296 * d = mul-le-mul {n₁ = a} {m₁ = b} {n₂ = 4294967296} {m₂ = d}
+    (omega (arith, ints, h.high)) (omega (arith, ints, g.high, e)) in
     rounded_up_to (a * b) d 4294967296 (omega (arith, e)) most
 product_up_to (pos a) (negsuc b) h g d e = absurd (omega (arith, ints, g.low))
 product_up_to (negsuc a) b h g d e = absurd (omega (arith, ints, h.low))
@@ -48,11 +49,13 @@ square_up_to t h = product_up_to t t h h 4294967296 (omega arith)
 
 sine_sum_up_to : (z : ℤ) → IsUpTo 4294967296 z → IsUpTo 4294967296 (sine_sum z)
 sine_sum_up_to z h =
-    step_up_to z _ 6 h (step_up_to z _ 20 h (step_up_to z _ 42 h (step_up_to z _ 72 h one_up_to (omega arith)) (omega arith)) (omega arith)) (omega arith)
+    step_up_to z _ 6 h (step_up_to z _ 20 h (step_up_to z _ 42 h (step_up_to z _ 72 h one_up_to (omega arith))
+    (omega arith)) (omega arith)) (omega arith)
 
 cosine_sum_up_to : (z : ℤ) → IsUpTo 4294967296 z → IsUpTo 4294967296 (cosine_sum z)
 cosine_sum_up_to z h =
-    step_up_to z _ 2 h (step_up_to z _ 12 h (step_up_to z _ 30 h (step_up_to z _ 56 h one_up_to (omega arith)) (omega arith)) (omega arith)) (omega arith)
+    step_up_to z _ 2 h (step_up_to z _ 12 h (step_up_to z _ 30 h (step_up_to z _ 56 h one_up_to (omega arith))
+    (omega arith)) (omega arith)) (omega arith)
 
 -- from a count of 1/2^32 to one of 1/65536
 cut_up_to : (z : ℤ) → IsUpTo 4294967296 z → IsUpTo 65536 (div_round z (pos 65536))
@@ -88,9 +91,11 @@ remainder_below : (raw : ℤ) → unsigned_abs (int_rem_euclid raw (pos 23592960
 remainder_below (pos a) = omega arith
 remainder_below (negsuc a) = omega arith
 
+-- a sine is from -1 to 1
 pub sine_bound : (raw : ℤ) → unsigned_abs (sine_of raw) ≤ 65536
 sine_bound raw = turn_bound _ (remainder_below raw)
 
+-- a cosine is from -1 to 1
 pub cosine_bound : (raw : ℤ) → unsigned_abs (cosine_of raw) ≤ 65536
 cosine_bound raw = sine_bound (raw +ℤ pos 5898240)
 
@@ -112,11 +117,14 @@ half_turned q r h e = by_bool (leb 11796480 q)
     rw (b, less, start) refl)
 
 -- an angle and half a turn more, by remainders
-remainders : (raw : ℤ) → unsigned_abs (int_rem_euclid (raw +ℤ pos 11796480) (pos 23592960)) ≡ (unsigned_abs (int_rem_euclid raw (pos 23592960)) + 11796480) % 23592960
+remainders : (raw : ℤ) → unsigned_abs (int_rem_euclid (raw +ℤ pos 11796480) (pos 23592960))
+    ≡ (unsigned_abs (int_rem_euclid raw (pos 23592960)) + 11796480) % 23592960
 remainders (pos a) = omega arith
 remainders (negsuc a) =
-    let whole = int_rem_euclid_is (negsuc a +ℤ pos 11796480) (pos 23592960) 23592960 (a + 1) ((a + 1) * 23592960 + 11796480 - (a + 1)) (omega arith) refl (omega (arith, ints)) in
+    let whole = int_rem_euclid_is (negsuc a +ℤ pos 11796480) (pos 23592960) 23592960 (a + 1)
+    ((a + 1) * 23592960 + 11796480 - (a + 1)) (omega arith) refl (omega (arith, ints)) in
     rw whole (omega arith)
 
+-- half a turn more changes the sign of a sine
 pub half_turn : (raw : ℤ) → sine_of (raw +ℤ pos 11796480) ≡ neg_ℤ (sine_of raw)
 half_turn raw = half_turned _ _ (remainder_below raw) (remainders raw)

@@ -2,14 +2,14 @@
 -- Manipulation). Own rule: an element of a product is one sum, rounded once.
 use Rattle.std.specs.Prelude.{ℤ, pos, ◌+ℤ◌, ◌*ℤ◌, Option}
 use Rattle.press_nums.specs.Rounding.{div_round}
-use Rattle.geo_matrix.specs.Affine.{Affine, affine_of}
+use Rattle.geo_matrix.specs.Affine.{MatrixValue, affine_of}
 
 -- one element of a product: row (p, r) by column (q, s), and what is added before rounding
 abbrev pub row_by_column : ℤ → ℤ → ℤ → ℤ → ℤ → ℤ
 row_by_column p q r s plus = div_round (p *ℤ q +ℤ r *ℤ s +ℤ plus) (pos 65536)
 
--- the first matrix, and then the second
-abbrev pub product : Affine → Affine → Affine
+-- the matrix that does the first one and then the second
+abbrev pub product : MatrixValue → MatrixValue → MatrixValue
 product m n = record {
   a = row_by_column m.a n.a m.b n.c (pos 0);
   b = row_by_column m.a n.b m.b n.d (pos 0);
@@ -20,5 +20,5 @@ product m n = record {
 }
 
 -- that product, where each of its elements is a real number
-abbrev pub concat_of : Affine → Affine → Option Affine
+abbrev pub concat_of : MatrixValue → MatrixValue → Option MatrixValue
 concat_of m n = affine_of (product m n)

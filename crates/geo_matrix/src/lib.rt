@@ -11,8 +11,6 @@ mod angle;
 mod laws;
 mod matrix;
 mod points;
-#[cfg(test)]
-mod tests;
 
 pub use angle::{cosine, sine, turn};
 pub use laws::{

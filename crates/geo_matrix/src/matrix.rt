@@ -22,9 +22,9 @@ pub struct Matrix {
 }
 
 impl Model for Matrix {
-    ghost use Rattle.geo_matrix.specs.Affine.{Affine};
+    ghost use Rattle.geo_matrix.specs.Affine.{MatrixValue};
 
-    ghost Value = { Affine };
+    ghost Value = { MatrixValue };
 
     ghost view = { λ m. record { a = m.a; b = m.b; c = m.c; d = m.d; tx = m.tx; ty = m.ty } };
 

@@ -2,7 +2,7 @@
 ghost use Rattle.std.specs.Prelude.{◌≡◌, ◌≤◌, ◌<◌, ◌^◌, ℤ, pos, unsigned_abs, ◌+ℤ◌, ◌-ℤ◌, ◌*ℤ◌, nat_lt, IfOk};
 ghost use Rattle.std.specs.Result.{result_ok};
 ghost use Rattle.press_nums.specs.Rounding.{div_round, div_round_signed};
-ghost use Rattle.press_fault.specs.Plane.{Spot};
+ghost use Rattle.press_fault.specs.Plane.{PointValue};
 ghost use Rattle.geo_matrix.specs.Affine.{IsNear, near_spot, dots_of, step_dots_of};
 ghost use Rattle.geo_matrix.specs.Places.{place_of, device_of, user_of, back_of};
 
@@ -19,9 +19,9 @@ pub struct RealPoint {
 }
 
 impl Model for RealPoint {
-    ghost use Rattle.geo_matrix.specs.Places.{Place};
+    ghost use Rattle.geo_matrix.specs.Places.{RealPointValue};
 
-    ghost Value = { Place };
+    ghost Value = { RealPointValue };
 
     ghost view = { λ p. record { x = p.x; y = p.y } };
 

@@ -1,4 +1,5 @@
 pub mod CurveLemmas
+mod ChainLemmas
 pub mod CountLemmas
 pub mod FlatLemmas
 pub mod AngleLemmas

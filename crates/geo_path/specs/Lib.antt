@@ -2,4 +2,4 @@ pub mod Curve
 pub mod Path
 pub mod Arc
 pub mod Flat
-pub mod Points
+pub mod Code

@@ -1,13 +1,16 @@
 //! Arcs of circles.
-ghost use Rattle.std.specs.Prelude.{◌≡◌, ◌≤◌, ◌<◌, ◌≢◌, ◌^◌, ◌+◌, ◌-◌, ℤ, pos, [], ◌∷◌, ◌++◌, map, drop, length, slice_get, unsigned_abs, ◌+ℤ◌, ◌-ℤ◌, ◌*ℤ◌, Some, None, Ok, Err, OnOk, OnErr, IfOk, IfErr};
+ghost use Rattle.std.specs.Prelude.{◌≡◌, ◌≤◌, ◌<◌, ◌≢◌, ◌^◌, ◌+◌, ◌-◌, ℤ, pos, [], ◌∷◌, ◌++◌, map, drop, length};
+ghost use Rattle.std.specs.Prelude.{slice_get, unsigned_abs, ◌+ℤ◌, ◌-ℤ◌, ◌*ℤ◌, Some, None, Ok, Err, OnOk, OnErr, IfOk};
+ghost use Rattle.std.specs.Prelude.{IfErr};
 ghost use Rattle.std.specs.List.{All};
 ghost use Rattle.std.specs.Option.{option_and_then};
 ghost use Rattle.std.specs.Result.{result_err};
 ghost use Rattle.press_nums.specs.Fix.{fix_of, product_of};
 ghost use Rattle.geo_matrix.specs.Affine.{IsNear};
 ghost use Rattle.geo_matrix.specs.Sine.{sine_of, cosine_of};
-ghost use Rattle.geo_path.specs.Arc.{turn_rest, end_angle, first_above, last_below, span, angles_of, multiple_at, offset_by, arc_point, then_points};
-ghost use Rattle.geo_path.specs.Points.{points_from};
+ghost use Rattle.geo_path.specs.Arc.{turn_rest, end_angle, first_above, last_below, span, angles_of, multiple_at};
+ghost use Rattle.geo_path.specs.Arc.{offset_by, arc_point, then_points};
+ghost use Rattle.geo_path.specs.Code.Points.{points_from};
 
 use crate::path::PathFault;
 use geo_matrix::{Matrix, cosine, sine, to_dots};
@@ -200,7 +203,8 @@ impl Arc {
     /// The point at a place, where the path has room for it and for those before it.
     fn next(&self, i: u64) -> Result<Point, PathFault>
         requires { i < length self.now.angles }
-        ensures step { points_from self.now.circle self.now.angles self.now.room i ≡ then_points result (points_from self.now.circle self.now.angles self.now.room (i + 1)) }
+        ensures step { points_from self.now.circle self.now.angles self.now.room i
+            ≡ then_points result (points_from self.now.circle self.now.angles self.now.room (i + 1)) }
         ensures near { IfOk result (λ p. IsNear p) }
     {
         let p = match self.circle.point(self.angles.at(i)) {
@@ -225,9 +229,11 @@ impl Arc {
 
     /// The points in order.
     pub fn points(&self, alloc: Global) -> Result<Vec<Point>, PathFault>
-        ensures ok { IfOk result (λ points. points_from self.now.circle self.now.angles self.now.room 0 ≡ Ok points.items) }
+        ensures ok { IfOk result (λ points. points_from self.now.circle self.now.angles self.now.room 0
+            ≡ Ok points.items) }
         ensures near { IfOk result (λ points. All IsNear points.items) }
-        ensures cause { IfErr result (λ fault. fault ≢ PathFault.NoMemory → points_from self.now.circle self.now.angles self.now.room 0 ≡ Err fault) }
+        ensures cause { IfErr result (λ fault. fault ≢ PathFault.NoMemory →
+            points_from self.now.circle self.now.angles self.now.room 0 ≡ Err fault) }
     {
         let mut points = Vec::new(alloc);
         for i in 0..self.angles.len() {

@@ -1,5 +1,6 @@
 //! Points of a curve.
-ghost use Rattle.std.specs.Prelude.{◌≡◌, length, ◌≤◌, ◌<◌, ◌^◌, ◌*◌, ◌+◌, ◌-◌, ◌++◌, ℤ, pos, unsigned_abs, ◌+ℤ◌, ◌-ℤ◌, ◌*ℤ◌, OnOk, OnErr};
+ghost use Rattle.std.specs.Prelude.{◌≡◌, length, ◌≤◌, ◌<◌, ◌^◌, ◌*◌, ◌+◌, ◌-◌, ◌++◌, ℤ, pos, unsigned_abs, ◌+ℤ◌, ◌-ℤ◌};
+ghost use Rattle.std.specs.Prelude.{◌*ℤ◌, OnOk, OnErr};
 ghost use Rattle.geo_matrix.specs.Affine.{IsNear};
 ghost use Rattle.geo_path.specs.Curve.{apart, control_length, pieces_of, cubic, curve_at, curve_spot, curve_points};
 
@@ -9,7 +10,7 @@ use press_nums::Wide;
 
 /// The four control points of a curve.
 #[derive(Clone, Copy, Debug, PartialEq, Eq)]
-pub(crate) struct Curve {
+pub(crate) struct Bezier {
     pub p0: Point,
     pub p1: Point,
     pub p2: Point,
@@ -18,7 +19,7 @@ pub(crate) struct Curve {
 
 /// Adds the points of a curve behind its start.
 #[tactic(auto, unfolding(crate::specs::Curve::curve_points))]
-pub(crate) fn push_curve(ring: &mut Ring, c: &Curve) -> Mem<()>
+pub(crate) fn push_curve(ring: &mut Ring, c: &Bezier) -> Mem<()>
     requires p0 { IsNear c.now.p0 }
     requires p1 { IsNear c.now.p1 }
     requires p2 { IsNear c.now.p2 }
@@ -34,7 +35,7 @@ pub(crate) fn push_curve(ring: &mut Ring, c: &Curve) -> Mem<()>
 
 /// How many points those are, from 8 to 64.
 #[tactic(auto, unfolding(crate::specs::Curve::curve_points), using(crate::proofs::LengthLemmas::curve_length))]
-pub(crate) fn curve_len(c: &Curve) -> u64
+pub(crate) fn curve_len(c: &Bezier) -> u64
     ensures value { result ≡ length (curve_points c.now.p0 c.now.p1 c.now.p2 c.now.p3) }
     ensures bound { result ≤ 64 }
 {
@@ -42,7 +43,7 @@ pub(crate) fn curve_len(c: &Curve) -> u64
 }
 
 /// How many pieces stand for the curve.
-fn pieces(c: &Curve) -> u32
+fn pieces(c: &Bezier) -> u32
     ensures value { result ≡ pieces_of (control_length c.now.p0 c.now.p1 c.now.p2 c.now.p3) }
     ensures some { 8 ≤ result }
     ensures few { result ≤ 64 }
@@ -68,7 +69,7 @@ fn apart(p: Point, q: Point) -> u128
 }
 
 /// The end of piece `i` of `n`.
-fn point_of(c: &Curve, n: u32, i: u32) -> Point
+fn point_of(c: &Bezier, n: u32, i: u32) -> Point
     requires some { 0 < n }
     requires few { n ≤ 64 }
     requires within { i ≤ n }

@@ -1,16 +1,18 @@
 //! Laws of the definitions: functions without code, whose contracts are the laws.
-ghost use Rattle.std.specs.Prelude.{◌≡◌, ◌≤◌, ◌<◌, ℕ, ℤ, pos, ◌*ℤ◌, Bool, slice_get, None, Some};
+ghost use Rattle.std.specs.Prelude.{◌≡◌, ◌≤◌, ◌<◌, ℕ, ℤ, pos, ◌*ℤ◌, Bool, false, List, ◌∷◌, ◌++◌, map, slice_get, None};
+ghost use Rattle.std.specs.Prelude.{Some};
 ghost use Rattle.std.specs.List.{All, count_by, last_or};
-ghost use Rattle.press_fault.specs.Plane.{Spot};
+ghost use Rattle.press_fault.specs.Plane.{PointValue};
 ghost use Rattle.press_nums.specs.Fix.{IsFix};
-ghost use Rattle.geo_path.specs.Path.{SubpathValue, PathValue, subpaths_of, end_from};
+ghost use Rattle.geo_path.specs.Path.{SubpathValue, PathValue, subpaths_of, end_from, continued};
+ghost use Rattle.geo_path.specs.declared.segment.Segment.TheVariants.{Line};
 ghost use Rattle.geo_path.specs.Curve.{curve_points};
 ghost use Rattle.geo_path.specs.Flat.{flat, lines_of};
-ghost use Rattle.geo_path.specs.Arc.{IsBetween, multiples_of, end_angle, IsOnTheRightSide};
+ghost use Rattle.geo_path.specs.Arc.{chain_of, IsBetween, multiples_of, end_angle, IsOnTheRightSide};
 
 /// The points of a curve end at its last control point.
 pub fn a_curve_ends_at_its_last_control_point()
-    ensures { (p0 p1 p2 p3 : Spot) → last_or None (curve_points p0 p1 p2 p3) ≡ Some p3 }
+    ensures { (p0 p1 p2 p3 : PointValue) → last_or None (curve_points p0 p1 p2 p3) ≡ Some p3 }
 {}
 
 /// A flattened subpath begins at its start and ends where its segments end.
@@ -21,7 +23,17 @@ pub fn flattening_keeps_the_ends()
 
 /// A flattened path has as many closed lines as the path has closed subpaths.
 pub fn flattening_keeps_what_is_closed()
-    ensures { (path : PathValue) → count_by (λ line. line.closed) (lines_of path) ≡ count_by (λ s. s.closed) (subpaths_of path) }
+    ensures { (path : PathValue) → count_by (λ line. line.closed) (lines_of path)
+        ≡ count_by (λ s. s.closed) (subpaths_of path) }
+{}
+
+/// An arc is the chain of its points' lines: flattened it has just these points, in order, alone in a
+/// subpath or behind what the subpath has.
+pub fn an_arc_is_the_chain_of_its_points()
+    ensures alone { (p : PointValue) (points : List PointValue) →
+        flat (chain_of (p ∷ points)) ≡ record { points = p ∷ points; closed = false } }
+    ensures behind { (s : SubpathValue) (points : List PointValue) →
+        (flat (continued s (map Line points))).points ≡ (flat s).points ++ points }
 {}
 
 /// Each angle between the ends of an arc is a multiple of the step and lies strictly between them.

@@ -3,7 +3,7 @@ ghost use Rattle.std.specs.Prelude.{◌≡◌, ◌≤◌, ◌*◌, length};
 ghost use Rattle.geo_path.specs.Flat.{added_by, flat, lines_of, points_in};
 ghost use Rattle.geo_path.specs.Path.{segment_count, subpath_count};
 
-use crate::curve::{Curve, curve_len};
+use crate::curve::{Bezier, curve_len};
 use crate::path::Path;
 use crate::segment::Segment;
 use crate::subpath::Subpath;
@@ -53,7 +53,7 @@ fn segment_len(at: Point, segment: &Segment) -> u64
     match segment {
         Segment::Line(_) => 1,
         Segment::Curve(q, r, s) => {
-            let curve = Curve {
+            let curve = Bezier {
                 p0: at,
                 p1: *q,
                 p2: *r,

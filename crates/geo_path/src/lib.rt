@@ -15,13 +15,12 @@ mod parts;
 mod path;
 mod segment;
 mod subpath;
-#[cfg(test)]
-mod tests;
 
-pub use flat::{Line, Lines};
+pub use flat::{Polyline, Polylines};
 pub use laws::{
-    a_curve_ends_at_its_last_control_point, an_end_is_on_the_right_side, flattening_keeps_the_ends,
-    flattening_keeps_what_is_closed, inner_angles_are_multiples_between,
+    a_curve_ends_at_its_last_control_point, an_arc_is_the_chain_of_its_points,
+    an_end_is_on_the_right_side, flattening_keeps_the_ends, flattening_keeps_what_is_closed,
+    inner_angles_are_multiples_between,
 };
 pub use path::{Path, PathFault};
 pub use segment::Segment;

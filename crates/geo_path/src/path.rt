@@ -1,9 +1,11 @@
 //! Paths and what adds to them.
-ghost use Rattle.std.specs.Prelude.{◌≡◌, ◌≤◌, ◌<◌, ◌≢◌, ◌==◌, true, length, [], Some, None, Ok, Err, OnOk, OnErr, IfOk, IfErr, IfSome};
+ghost use Rattle.std.specs.Prelude.{◌≡◌, ◌≤◌, ◌<◌, ◌≢◌, ◌==◌, true, length, [], Some, None, Ok, Err, OnOk, OnErr, IfOk};
+ghost use Rattle.std.specs.Prelude.{IfErr, IfSome};
 ghost use Rattle.std.specs.List.{All};
-ghost use Rattle.press_fault.specs.Plane.{Spot};
+ghost use Rattle.press_fault.specs.Plane.{PointValue};
 ghost use Rattle.geo_matrix.specs.Affine.{IsNear, is_near};
-ghost use Rattle.geo_path.specs.Path.{IsNearSegment, current_of, count_of, closed, move_of, segment_of, line_of, curve_of};
+ghost use Rattle.geo_path.specs.Path.{IsNearSegment, current_of, count_of, closed, move_of, segment_of, line_of};
+ghost use Rattle.geo_path.specs.Path.{curve_of};
 ghost use Rattle.geo_path.specs.Arc.{arc_of, room_of, traced};
 
 use crate::arc::{Angles, Arc, Circle, end_angle};
@@ -176,7 +178,8 @@ impl Path {
     ) -> Result<(), PathFault>
         ensures ok { OnOk result (arc_of self.old m.now x y r from to clockwise ≡ Ok self.new) }
         ensures refused { IfErr (arc_of self.old m.now x y r from to clockwise) (λ fault. result ≡ Err fault) }
-        ensures cause { IfErr result (λ fault. fault ≢ PathFault.NoMemory → arc_of self.old m.now x y r from to clockwise ≡ Err fault) }
+        ensures cause { IfErr result (λ fault. fault ≢ PathFault.NoMemory →
+            arc_of self.old m.now x y r from to clockwise ≡ Err fault) }
         ensures err { OnErr result (self.new ≡ self.old) }
     {
         let Some(to) = end_angle(from, to, clockwise) else {
@@ -240,7 +243,8 @@ impl Path {
         requires near { near ≡ true → IsNearSegment segment }
         ensures ok { OnOk result (segment_of self.old near segment ≡ Ok self.new) }
         ensures refused { IfErr (segment_of self.old near segment) (λ fault. result ≡ Err fault) }
-        ensures cause { IfErr result (λ fault. fault ≢ PathFault.NoMemory → segment_of self.old near segment ≡ Err fault) }
+        ensures cause { IfErr result (λ fault. fault ≢ PathFault.NoMemory →
+            segment_of self.old near segment ≡ Err fault) }
         ensures err { OnErr result (self.new ≡ self.old) }
     {
         let Some(last) = self.parts.last() else {

@@ -2,7 +2,8 @@
 ghost use Rattle.std.specs.Prelude.{◌≡◌, false, OnOk, OnErr, IfOk};
 ghost use Rattle.std.specs.List.{All};
 ghost use Rattle.geo_matrix.specs.Affine.{IsNear};
-ghost use Rattle.geo_path.specs.Path.{SubpathValue, IsNearSegment, IsNearSubpath, subpath_current, opened, continued, closed_subpath};
+ghost use Rattle.geo_path.specs.Path.{SubpathValue, IsNearSegment, IsNearSubpath, subpath_current, opened, continued};
+ghost use Rattle.geo_path.specs.Path.{closed_subpath};
 
 use crate::segment::Segment;
 use press_fault::{Mem, Point};
@@ -20,13 +21,14 @@ pub(crate) struct Subpath {
 }
 
 impl Model for Subpath {
-    ghost use Rattle.geo_path.specs.Path.{SubpathValue, IsKept};
+    ghost use Rattle.geo_path.specs.Path.{SubpathValue, IsPathKept};
 
     ghost Value = { SubpathValue };
 
     ghost view = { λ s. record { start = s.start; segments = s.segments.items; closed = s.closed } };
 
-    ghost invariant = { λ s. IsKept s.end (record { start = s.start; segments = s.segments.items; closed = s.closed }) };
+    ghost invariant = { λ s. IsPathKept s.end
+        (record { start = s.start; segments = s.segments.items; closed = s.closed }) };
 }
 
 impl Subpath {

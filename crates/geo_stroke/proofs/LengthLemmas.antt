@@ -1,17 +1,12 @@
 -- Lengths of segments: that they are above 0, and at least as long as each step.
-use Rattle.std.proofs.Common.{◌≡◌, ℕ, zero, suc, ◌+◌, ◌*◌, ◌/◌, ◌<◌, ◌≤◌, ◌==◌, ◌&&◌, ◌^◌, Bool, true, false, leb, arith, refl, sym, ap, ◌∙◌, unsigned_abs}
+use Rattle.std.proofs.Common.{◌≡◌, ℕ, zero, suc, ◌+◌, ◌*◌, ◌/◌, ◌<◌, ◌≤◌, ◌==◌, ◌&&◌, ◌^◌, Bool, true, false, leb}
+use Rattle.std.proofs.Common.{arith, refl, sym, ap, ◌∙◌, unsigned_abs}
 use Rattle.std.proofs.lemmas.Bool.{leb-true, leb-false}
 use Rattle.std.proofs.Math.Nat.{mul-le-mul_left, mul-le-mul}
+use Rattle.proof_words.proofs.Cases.{by_bool, by_le}
 use Rattle.press_nums.specs.Roots.{root, IsRoot}
 use Rattle.press_nums.proofs.RootLemmas.{square_is, is_root, root_is, root_greatest}
-use Rattle.geo_stroke.specs.Segment.{Segment, HasLength, step_x, step_y, is_point, square_of, length_of}
-
-pub by_bool : {P : Type 0} (b : Bool) → (b ≡ true → P) → (b ≡ false → P) → P
-by_bool true f g = f refl
-by_bool false f g = g refl
-
-pub by_le : {P : Type 0} (a b : ℕ) → (a ≤ b → P) → (b < a → P) → P
-by_le a b f g = by_bool (leb a b) (λ e. f (leb-true a b e)) (λ e. g (omega (arith, leb-false a b e)))
+use Rattle.geo_stroke.specs.Segment.{LineSegmentValue, HasLength, step_x, step_y, is_point, square_of, length_of}
 
 -- a root is at least each number whose square fits
 pub root_reaches : (n r x : ℕ) → IsRoot 2 n r → x * x ≤ n → x ≤ r
@@ -37,7 +32,8 @@ length_most q r h i = by_le r (2 ^ 41) (λ e. e)
     omega (arith, more, h, i.fits, square_is r))
 
 -- what a length in 1/65536 of a dot keeps
-pub has_length : (s : Segment) (q r : ℕ) → is_point s ≡ false → q ≡ square_of s → q ≤ 2 ^ 65 → r ≡ root 2 (q * 65536) → IsRoot 2 (q * 65536) r → HasLength s r
+pub has_length : (s : LineSegmentValue) (q r : ℕ) → is_point s ≡ false → q ≡ square_of s → q ≤ 2 ^ 65 →
+    r ≡ root 2 (q * 65536) → IsRoot 2 (q * 65536) r → HasLength s r
 has_length s q r differs e h v i =
     let x = step_reaches (unsigned_abs (step_x s)) (unsigned_abs (step_y s)) q r e i in
     let y = other_step_reaches (unsigned_abs (step_x s)) (unsigned_abs (step_y s)) q r e i in
@@ -60,8 +56,10 @@ coarse_root n r i =
     (λ f. absurd (let e = i.greatest (256 * (r / 256 + 1)) (rw square_is (omega (arith, f))) in omega (arith, e, high)))
     (λ f. f)))
 
-pub length_by : (s : Segment) (r : ℕ) → HasLength s r → r / 256 ≡ length_of s
-length_by s r h = rw (sym h.value) (root_is 2 (square_of s) _ (omega arith) (coarse_root (square_of s) _ (root_greatest 2 (square_of s * 65536) (omega arith))))
+-- a segment's length in 1/65536 of a dot, by 256 and rounded down, is its length in sub-dots
+pub length_by : (s : LineSegmentValue) (r : ℕ) → HasLength s r → r / 256 ≡ length_of s
+length_by s r h = rw (sym h.value) (root_is 2 (square_of s) _ (omega arith)
+    (coarse_root (square_of s) _ (root_greatest 2 (square_of s * 65536) (omega arith))))
 
 -- a share of h by a step of at most the whole is at most h
 pub share_most : (l h s n q : ℕ) → 0 < l → n ≡ s * h * 256 → 256 * s ≤ l → 2 * (l * q) ≤ 2 * n + l → q ≤ h

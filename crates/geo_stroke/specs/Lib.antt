@@ -3,4 +3,4 @@ pub mod Segment
 pub mod Corner
 pub mod Outline
 pub mod Dash
-pub mod Cursor
+pub mod Code

@@ -1,14 +1,15 @@
 -- Pens of strokes (PostScript Language Reference, third edition, 8.2 `setlinewidth`, `setlinecap`,
 -- `setlinejoin`, `setmiterlimit`, `setdash`). Own rule: a pen is round and its half width a whole
 -- number of sub-dots, 1/256 of a dot; lengths of dashes count 1/65536 of a dot.
-use Rattle.std.specs.Prelude.{ℕ, ◌==◌, Bool, zero, suc, ◌≤◌, ◌<◌, ◌^◌, ℤ, pos, negsuc, ◌≤ℤ◌, unsigned_abs, List, length, Option, Some, None}
+use Rattle.std.specs.Prelude.{ℕ, ◌==◌, Bool, zero, suc, ◌≤◌, ◌<◌, ◌^◌, ℤ, pos, negsuc, ◌≤ℤ◌, unsigned_abs, List, length}
+use Rattle.std.specs.Prelude.{Option, Some, None}
 use Rattle.std.specs.List.{All, list_all}
 use Rattle.geo_stroke.specs.declared.pen.Cap.{Cap}
 use Rattle.geo_stroke.specs.declared.pen.Cap.TheVariants as cap
 use Rattle.geo_stroke.specs.declared.pen.Join.{Join}
 use Rattle.geo_stroke.specs.declared.pen.Join.TheVariants as join
 
--- the caps by their numbers
+-- the caps by their numbers: 0 butt, 1 round, 2 square; none of any other
 abbrev pub cap_of : ℤ → Option Cap
 cap_of (pos zero) = Some cap.Butt
 cap_of (pos (suc zero)) = Some cap.Round
@@ -16,7 +17,7 @@ cap_of (pos (suc (suc zero))) = Some cap.Square
 cap_of (pos (suc (suc (suc n)))) = None
 cap_of (negsuc n) = None
 
--- the joins by their numbers
+-- the joins by their numbers: 0 miter, 1 round, 2 bevel; none of any other
 abbrev pub join_of : ℤ → Option Join
 join_of (pos zero) = Some join.Miter
 join_of (pos (suc zero)) = Some join.Round
@@ -24,11 +25,11 @@ join_of (pos (suc (suc zero))) = Some join.Bevel
 join_of (pos (suc (suc (suc n)))) = None
 join_of (negsuc n) = None
 
--- a length of a dash or a gap
+-- a length of a dash or a gap, below 2^62
 abbrev pub IsDash : ℕ → Type 0
 IsDash dash = dash < 2 ^ 62
 
--- a pattern of dashes: few, and each short enough
+-- a pattern of dashes: at most 32 lengths, each below 2^62
 pub record IsPattern (dashes : List ℕ) : Type 0 where
   pub few : length dashes ≤ 32
   pub short : All IsDash dashes

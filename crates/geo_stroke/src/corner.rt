@@ -1,12 +1,14 @@
 //! Joins at the corners of lines.
-ghost use Rattle.std.specs.Prelude.{◌≡◌, ◌≤◌, ◌<◌, ◌^◌, ◌*◌, ◌++◌, true, false, ℤ, pos, ◌≤ℤ◌, ◌<ℤ◌, ◌+ℤ◌, ◌-ℤ◌, ◌*ℤ◌, unsigned_abs, OnOk, IfOk, MatchOption};
+ghost use Rattle.std.specs.Prelude.{◌≡◌, ◌≤◌, ◌<◌, ◌^◌, ◌*◌, ◌++◌, true, false, ℤ, pos, ◌≤ℤ◌, ◌<ℤ◌, ◌+ℤ◌, ◌-ℤ◌, ◌*ℤ◌};
+ghost use Rattle.std.specs.Prelude.{unsigned_abs, OnOk, IfOk, MatchOption};
 ghost use Rattle.geo_matrix.specs.Affine.{IsNear};
 ghost use Rattle.press_nums.specs.Rounding.{div_round};
 ghost use Rattle.geo_stroke.specs.Segment.{IsHalf, IsThin, IsFar, step_x, step_y, length_of, across};
-ghost use Rattle.geo_stroke.specs.Corner.{cross_of, scalar_of, outward, bevel, limit_of, is_within, spread_of, meet_of, meeting_of, meeting, is_short, has_miter, miter, join_shapes};
+ghost use Rattle.geo_stroke.specs.Corner.{cross_of, scalar_of, outward, bevel, limit_of, is_within, spread_of, meet_of};
+ghost use Rattle.geo_stroke.specs.Corner.{meeting_of, meeting, is_short, has_miter, miter, join_shapes};
 
 use crate::pen::{Join, Pen};
-use crate::segment::{Segment, Vector, plus};
+use crate::segment::{LineSegment, Vector, plus};
 use crate::shapes::{disc_at, polygon};
 use page_model::{Shape, Shapes};
 use press_fault::Mem;
@@ -18,8 +20,8 @@ pub(crate) fn push_join(
     alloc: Global,
     shapes: &mut Shapes,
     pen: &Pen,
-    a: Segment,
-    b: Segment,
+    a: LineSegment,
+    b: LineSegment,
 ) -> Mem<()>
     ensures ok { OnOk result (shapes.new ≡ shapes.old ++ join_shapes pen.now a b) }
 {
@@ -47,7 +49,7 @@ pub(crate) fn push_join(
 }
 
 /// The cross product of two segments: above 0 where the line turns clockwise on the page.
-fn cross(a: Segment, b: Segment) -> Wide
+fn cross(a: LineSegment, b: LineSegment) -> Wide
     ensures value { result ≡ cross_of a b }
     ensures bound { unsigned_abs result ≤ 2 ^ 65 }
 {
@@ -55,7 +57,7 @@ fn cross(a: Segment, b: Segment) -> Wide
 }
 
 /// The scalar product of two segments.
-fn scalar(a: Segment, b: Segment) -> Wide
+fn scalar(a: LineSegment, b: LineSegment) -> Wide
     ensures value { result ≡ scalar_of a b }
     ensures bound { unsigned_abs result ≤ 2 ^ 65 }
 {
@@ -72,7 +74,7 @@ fn product(p: Wide, q: Wide) -> Wide
 }
 
 /// A vector across a segment, to the outer side of the corner.
-fn outward(a: Segment, b: Segment, v: Vector) -> Vector
+fn outward(a: LineSegment, b: LineSegment, v: Vector) -> Vector
     requires { IsFar v }
     ensures value { result ≡ outward a b v }
     ensures far { IsFar result }
@@ -85,7 +87,7 @@ fn outward(a: Segment, b: Segment, v: Vector) -> Vector
 }
 
 /// The triangle of the corner and the ends of the outer sides.
-fn bevel(alloc: Global, half: Wide, a: Segment, b: Segment) -> Mem<Shape>
+fn bevel(alloc: Global, half: Wide, a: LineSegment, b: LineSegment) -> Mem<Shape>
     requires { IsHalf half }
     ensures { IfOk result (λ shape. shape ≡ bevel half a b) }
 {
@@ -96,7 +98,7 @@ fn bevel(alloc: Global, half: Wide, a: Segment, b: Segment) -> Mem<Shape>
 }
 
 /// The corner, the ends of the outer sides and, between them, where they meet.
-fn miter(alloc: Global, half: Wide, a: Segment, b: Segment, tip: Vector) -> Mem<Shape>
+fn miter(alloc: Global, half: Wide, a: LineSegment, b: LineSegment, tip: Vector) -> Mem<Shape>
     requires half { IsHalf half }
     requires far { IsFar tip }
     requires tip { tip ≡ meeting half a b }
@@ -110,7 +112,7 @@ fn miter(alloc: Global, half: Wide, a: Segment, b: Segment, tip: Vector) -> Mem<
 }
 
 /// The way from the corner to the tip of its miter; `None` exactly where it has a bevel.
-fn miter_tip(pen: &Pen, a: Segment, b: Segment) -> Option<Vector>
+fn miter_tip(pen: &Pen, a: LineSegment, b: LineSegment) -> Option<Vector>
     ensures { MatchOption result (has_miter pen.now a b ≡ false)
         (λ tip. (has_miter pen.now a b ≡ true) × (tip ≡ meeting pen.now.half a b) × IsFar tip) }
 {
@@ -138,7 +140,7 @@ fn limit(pen: &Pen) -> Wide
 }
 
 /// Whether a miter is within the limit `m`.
-fn is_within(m: Wide, a: Segment, b: Segment) -> bool
+fn is_within(m: Wide, a: LineSegment, b: LineSegment) -> bool
     requires { unsigned_abs m ≤ 2 ^ 26 }
     ensures { result ≡ is_within m a b }
 {

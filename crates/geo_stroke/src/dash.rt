@@ -2,12 +2,14 @@
 //!
 //! Distances count 1/65536 of a dot from the start of the first cycle of the pattern: a line goes from
 //! `phase` to `phase + total`.
-ghost use Rattle.std.specs.Prelude.{◌≡◌, ℕ, ◌≤◌, ◌<◌, ◌^◌, ◌+◌, ◌-◌, ◌*◌, ◌/◌, [], ◌∷◌, ◌++◌, false, pos, length, OnOk, OnErr, IfOk, unsigned_abs};
+ghost use Rattle.std.specs.Prelude.{◌≡◌, ℕ, ◌≤◌, ◌<◌, ◌^◌, ◌+◌, ◌-◌, ◌*◌, ◌/◌, [], ◌∷◌, ◌++◌, false, pos, length, OnOk};
+ghost use Rattle.std.specs.Prelude.{OnErr, IfOk, unsigned_abs};
 ghost use Rattle.std.specs.Int.{int_rem_euclid};
 ghost use Rattle.std.specs.List.{sum};
 ghost use Rattle.geo_stroke.specs.Pen.{is_solid};
-ghost use Rattle.geo_stroke.specs.Dash.{is_even, cycle_length, phase_of, is_made, dash_on, dash_of, dashes_from, cycle_dashes, cycles_of, dashes_by};
-ghost use Rattle.geo_stroke.specs.Cursor.{later_by, LeavesRoom};
+ghost use Rattle.geo_stroke.specs.Dash.{is_even, cycle_length, phase_of, is_made, dash_on, dash_of, dashes_from};
+ghost use Rattle.geo_stroke.specs.Dash.{cycle_dashes, cycles_of, dashes_by};
+ghost use Rattle.geo_stroke.specs.Code.Cursor.{later_by, LeavesRoom};
 
 use press_fault::Mem;
 use press_nums::Wide;
@@ -39,7 +41,7 @@ impl Dash {
 
 /// A line under a pattern of dashes: how far into the first cycle it begins, and how long it is.
 #[derive(Clone, Copy)]
-pub(crate) struct Extent {
+pub(crate) struct DashedLine {
     pub phase: u128,
     pub total: u128,
 }
@@ -89,7 +91,7 @@ pub(crate) fn phase(offset: Wide, cycle: u128) -> u128
 }
 
 /// Whether a dash is made that is `size` long from a distance on.
-fn is_made(line: Extent, at: u128, size: u64) -> bool
+fn is_made(line: DashedLine, at: u128, size: u64) -> bool
     requires phase { line.phase ≤ 2 ^ 70 }
     requires total { line.total ≤ 2 ^ 107 }
     requires at { at ≤ 2 ^ 110 }
@@ -103,7 +105,7 @@ fn is_made(line: Extent, at: u128, size: u64) -> bool
 }
 
 /// The part of it that lies on the line.
-fn dash_on(line: Extent, at: u128, size: u64) -> Dash
+fn dash_on(line: DashedLine, at: u128, size: u64) -> Dash
     requires phase { line.phase ≤ 2 ^ 70 }
     requires total { line.total ≤ 2 ^ 107 }
     requires at { at ≤ 2 ^ 110 }
@@ -118,7 +120,7 @@ fn dash_on(line: Extent, at: u128, size: u64) -> Dash
 }
 
 /// Adds the dash of an element, if it is one and is made.
-fn push_dash(list: &mut Vec<Dash>, line: Extent, is_dash: bool, at: u128, size: u64) -> Mem<()>
+fn push_dash(list: &mut Vec<Dash>, line: DashedLine, is_dash: bool, at: u128, size: u64) -> Mem<()>
     requires phase { line.phase ≤ 2 ^ 70 }
     requires total { line.total ≤ 2 ^ 107 }
     requires at { at ≤ 2 ^ 110 }
@@ -133,7 +135,7 @@ fn push_dash(list: &mut Vec<Dash>, line: Extent, is_dash: bool, at: u128, size: 
 /// Adds the dashes of elements that take turns from a distance on.
 fn push_turns(
     list: &mut Vec<Dash>,
-    line: Extent,
+    line: DashedLine,
     is_dash: bool,
     at: u128,
     dashes: &[u64],
@@ -155,7 +157,7 @@ fn push_turns(
 }
 
 /// Adds the dashes of a cycle that begins at a distance.
-fn push_cycle(list: &mut Vec<Dash>, line: Extent, dashes: &[u64], at: u128) -> Mem<()>
+fn push_cycle(list: &mut Vec<Dash>, line: DashedLine, dashes: &[u64], at: u128) -> Mem<()>
     requires phase { line.phase ≤ 2 ^ 70 }
     requires total { line.total ≤ 2 ^ 107 }
     requires at { at ≤ 2 ^ 108 }
@@ -170,7 +172,7 @@ fn push_cycle(list: &mut Vec<Dash>, line: Extent, dashes: &[u64], at: u128) -> M
 }
 
 /// How many cycles begin on a line or at its end, the first among them.
-fn cycles(line: Extent, cycle: u128) -> u128
+fn cycles(line: DashedLine, cycle: u128) -> u128
     requires phase { line.phase ≤ 2 ^ 70 }
     requires total { line.total ≤ 2 ^ 107 }
     requires some { 0 < cycle }
@@ -181,7 +183,7 @@ fn cycles(line: Extent, cycle: u128) -> u128
 }
 
 /// The dashes of a line, in order.
-pub(crate) fn dashes_on(alloc: Global, line: Extent, dashes: &[u64]) -> Mem<Vec<Dash>>
+pub(crate) fn dashes_on(alloc: Global, line: DashedLine, dashes: &[u64]) -> Mem<Vec<Dash>>
     requires phase { line.phase ≤ 2 ^ 70 }
     requires total { line.total ≤ 2 ^ 107 }
     requires few { length dashes.now ≤ 32 }
@@ -197,7 +199,7 @@ pub(crate) fn dashes_on(alloc: Global, line: Extent, dashes: &[u64]) -> Mem<Vec<
 }
 
 /// How many dashes elements have that take turns from a distance on.
-fn count_turns(line: Extent, is_dash: bool, at: u128, dashes: &[u64]) -> u32
+fn count_turns(line: DashedLine, is_dash: bool, at: u128, dashes: &[u64]) -> u32
     requires phase { line.phase ≤ 2 ^ 70 }
     requires total { line.total ≤ 2 ^ 107 }
     requires at { at ≤ 2 ^ 109 }
@@ -219,7 +221,7 @@ fn count_turns(line: Extent, is_dash: bool, at: u128, dashes: &[u64]) -> u32
 }
 
 /// How many dashes a cycle has that begins at a distance.
-fn count_cycle(line: Extent, dashes: &[u64], at: u128) -> u32
+fn count_cycle(line: DashedLine, dashes: &[u64], at: u128) -> u32
     requires phase { line.phase ≤ 2 ^ 70 }
     requires total { line.total ≤ 2 ^ 107 }
     requires at { at ≤ 2 ^ 108 }
@@ -237,7 +239,7 @@ fn count_cycle(line: Extent, dashes: &[u64], at: u128) -> u32
 
 /// How many more dashes there is room for behind those of a line; `None` exactly where it has more
 /// dashes than there is room for.
-pub(crate) fn room_behind(line: Extent, dashes: &[u64], room: u32) -> Option<u32>
+pub(crate) fn room_behind(line: DashedLine, dashes: &[u64], room: u32) -> Option<u32>
     requires phase { line.phase ≤ 2 ^ 70 }
     requires total { line.total ≤ 2 ^ 107 }
     requires few { length dashes.now ≤ 32 }

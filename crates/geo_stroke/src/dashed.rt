@@ -5,16 +5,17 @@ ghost use Rattle.geo_matrix.specs.Affine.{IsNear};
 ghost use Rattle.geo_path.specs.Flat.{IsNearLine};
 ghost use Rattle.geo_stroke.specs.Pen.{is_solid};
 ghost use Rattle.geo_stroke.specs.Segment.{fine_length_of, between, closing, segment_between, segments_of};
-ghost use Rattle.geo_stroke.specs.Dash.{phase_of, place_on, dash_shapes, chain_shapes, dashed_shapes, dot_dash, line_dashes, total_of};
-ghost use Rattle.geo_stroke.specs.Cursor.{IsOnLine, LeavesRoom};
+ghost use Rattle.geo_stroke.specs.Dash.{phase_of, place_on, dash_shapes, chain_shapes, dashed_shapes, dot_dash};
+ghost use Rattle.geo_stroke.specs.Dash.{line_dashes, total_of};
+ghost use Rattle.geo_stroke.specs.Code.Cursor.{IsOnLine, LeavesRoom};
 
-use crate::dash::{Dash, Extent, cycle_length, dashes_on, phase, room_behind};
-use crate::line::{Segments, push_dot, push_line};
+use crate::dash::{Dash, DashedLine, cycle_length, dashes_on, phase, room_behind};
+use crate::line::{LineSegments, push_dot, push_line};
 use crate::pen::{Cap, Pen};
 use crate::place::{Cursor, dash_points, point_at, seek, total};
-use crate::segment::{Segment, segment_of};
+use crate::segment::{LineSegment, segment_of};
 use crate::shapes::{disc_at, square_end, square_start};
-use geo_path::Line;
+use geo_path::Polyline;
 use page_model::Shapes;
 use press_fault::{Mem, Point};
 use std::alloc::Global;
@@ -25,13 +26,13 @@ pub(crate) fn push_dashed_line(
     alloc: Global,
     shapes: &mut Shapes,
     pen: &Pen,
-    line: &Line,
+    line: &Polyline,
 ) -> Mem<()>
     requires near { IsNearLine line.now }
     requires dashes { is_solid pen.now.dashes ≡ false }
     ensures ok { OnOk result (shapes.new ≡ shapes.old ++ dashed_shapes pen.now line.now) }
 {
-    let segments = Segments::of_line(alloc, line)?;
+    let segments = LineSegments::of_line(alloc, line)?;
     match segments.items().split_first() {
         None => push_dot(shapes, pen, line),
         Some((first, rest)) => push_pattern(alloc, shapes, pen, *first, rest),
@@ -43,13 +44,13 @@ fn push_pattern(
     alloc: Global,
     shapes: &mut Shapes,
     pen: &Pen,
-    first: Segment,
-    rest: &[Segment],
+    first: LineSegment,
+    rest: &[LineSegment],
 ) -> Mem<()>
     requires { is_solid pen.now.dashes ≡ false }
     ensures ok { OnOk result (shapes.new ≡ shapes.old ++ chain_shapes pen.now first rest.now) }
 {
-    let extent = Extent {
+    let extent = DashedLine {
         phase: pen_phase(pen),
         total: total(first, rest),
     };
@@ -71,8 +72,8 @@ fn push_dashes(
     alloc: Global,
     shapes: &mut Shapes,
     pen: &Pen,
-    first: Segment,
-    all: &[Segment],
+    first: LineSegment,
+    all: &[LineSegment],
     dashes: &[Dash],
 ) -> Mem<()>
     requires { All (IsOnLine (total_of (first ∷ all.now))) dashes.now }
@@ -99,8 +100,8 @@ fn push_dash(
     alloc: Global,
     shapes: &mut Shapes,
     pen: &Pen,
-    first: Segment,
-    rest: &[Segment],
+    first: LineSegment,
+    rest: &[LineSegment],
     dash: Dash,
 ) -> Mem<()>
     requires from { dash.from ≤ fine_length_of first }
@@ -111,7 +112,7 @@ fn push_dash(
         push_dot_dash(alloc, shapes, pen, first, dash.from)
     } else {
         let points = dash_points(alloc, first, rest, dash.from, dash.to)?;
-        let line = Line {
+        let line = Polyline {
             points,
             closed: false,
         };
@@ -124,7 +125,7 @@ fn push_dot_dash(
     alloc: Global,
     shapes: &mut Shapes,
     pen: &Pen,
-    s: Segment,
+    s: LineSegment,
     distance: u128,
 ) -> Mem<()>
     requires { distance ≤ fine_length_of s }
@@ -145,7 +146,7 @@ fn push_dot_dash(
 /// How many more dashes there is room for behind those of a line; `None` exactly where it has more
 /// dashes than there is room for.
 #[tactic(auto, unfolding(crate::specs::Dash::line_dashes))]
-pub(crate) fn room_behind_line(pen: &Pen, line: &Line, room: u32) -> Option<u32>
+pub(crate) fn room_behind_line(pen: &Pen, line: &Polyline, room: u32) -> Option<u32>
     requires near { IsNearLine line.now }
     requires dashes { is_solid pen.now.dashes ≡ false }
     ensures { LeavesRoom room (length (line_dashes pen.now line.now)) result }
@@ -154,7 +155,7 @@ pub(crate) fn room_behind_line(pen: &Pen, line: &Line, room: u32) -> Option<u32>
     if sizes.count == 0 {
         return Some(room);
     }
-    let extent = Extent {
+    let extent = DashedLine {
         phase: pen_phase(pen),
         total: sizes.total,
     };
@@ -168,7 +169,7 @@ struct Sizes {
     total: u128,
 }
 
-fn sizes_of(line: &Line) -> Sizes
+fn sizes_of(line: &Polyline) -> Sizes
     requires { IsNearLine line.now }
     ensures count { result.count ≡ length (segments_of line.now) }
     ensures total { result.total ≡ total_of (segments_of line.now) }

@@ -17,8 +17,6 @@ mod place;
 mod segment;
 mod shapes;
 mod stroke;
-#[cfg(test)]
-mod tests;
 
 pub use pen::{Cap, Dashes, Join, MAX_DASHES, Pen};
 pub use stroke::outline;

@@ -9,9 +9,9 @@ ghost use Rattle.geo_stroke.specs.Outline.{body, end_cap, start_cap, caps, dot_b
 
 use crate::corner::push_join;
 use crate::pen::{Cap, Pen};
-use crate::segment::{Segment, minus, plus, segment_of};
+use crate::segment::{LineSegment, minus, plus, segment_of};
 use crate::shapes::{disc_at, polygon, square_end, square_start};
-use geo_path::Line;
+use geo_path::Polyline;
 use page_model::Shapes;
 use press_fault::{Mem, Point};
 use std::alloc::Global;
@@ -19,26 +19,26 @@ use std::marker::Model;
 
 /// The segments of a line, in order.
 #[derive(Drop)]
-pub(crate) struct Segments {
-    segments: Vec<Segment>,
+pub(crate) struct LineSegments {
+    segments: Vec<LineSegment>,
 }
 
-impl Model for Segments {
+impl Model for LineSegments {
     ghost use Rattle.std.specs.Prelude.{List};
-    ghost use Rattle.geo_stroke.specs.Segment.{Segment};
+    ghost use Rattle.geo_stroke.specs.Segment.{LineSegmentValue};
 
-    ghost Value = { List Segment };
+    ghost Value = { List LineSegmentValue };
 
     ghost view = { λ s. s.segments.items };
 }
 
-impl Segments {
+impl LineSegments {
     /// The segments of a line, in order.
-    pub(crate) fn of_line(alloc: Global, line: &Line) -> Mem<Segments>
+    pub(crate) fn of_line(alloc: Global, line: &Polyline) -> Mem<LineSegments>
         requires { IsNearLine line.now }
         ensures { IfOk result (λ segments. segments ≡ segments_of line.now) }
     {
-        let mut segments = Segments {
+        let mut segments = LineSegments {
             segments: Vec::new(alloc),
         };
         if let Some((first, rest)) = line.points.items().split_first() {
@@ -51,7 +51,8 @@ impl Segments {
     fn push_chain(&mut self, first: Point, rest: &[Point], closed: bool) -> Mem<()>
         requires first { IsNear first }
         requires rest { All IsNear rest.now }
-        ensures ok { OnOk result (self.new ≡ self.old ++ between segment_between first (rest.now ++ closing closed first)) }
+        ensures ok { OnOk result (self.new ≡ self.old
+            ++ between segment_between first (rest.now ++ closing closed first)) }
     {
         let mut at = first;
         for point in rest {
@@ -77,7 +78,7 @@ impl Segments {
     }
 
     /// All of them.
-    pub(crate) fn items(&self) -> &[Segment]
+    pub(crate) fn items(&self) -> &[LineSegment]
         ensures { result.now ≡ self.now }
     {
         &self.segments
@@ -86,11 +87,11 @@ impl Segments {
 
 /// Adds the shapes of a line under a solid pen.
 #[tactic(auto, unfolding(crate::specs::Outline::line_shapes))]
-pub(crate) fn push_line(alloc: Global, shapes: &mut Shapes, pen: &Pen, line: &Line) -> Mem<()>
+pub(crate) fn push_line(alloc: Global, shapes: &mut Shapes, pen: &Pen, line: &Polyline) -> Mem<()>
     requires { IsNearLine line.now }
     ensures ok { OnOk result (shapes.new ≡ shapes.old ++ line_shapes pen.now line.now) }
 {
-    let segments = Segments::of_line(alloc, line)?;
+    let segments = LineSegments::of_line(alloc, line)?;
     match segments.items().split_first() {
         None => push_dot(shapes, pen, line),
         Some((first, rest)) => {
@@ -103,7 +104,7 @@ pub(crate) fn push_line(alloc: Global, shapes: &mut Shapes, pen: &Pen, line: &Li
 }
 
 /// Adds what a line paints whose points are all the same.
-pub(crate) fn push_dot(shapes: &mut Shapes, pen: &Pen, line: &Line) -> Mem<()>
+pub(crate) fn push_dot(shapes: &mut Shapes, pen: &Pen, line: &Polyline) -> Mem<()>
     requires { IsNearLine line.now }
     ensures ok { OnOk result (shapes.new ≡ shapes.old ++ dot pen.now line.now.points line.now.closed) }
 {
@@ -119,7 +120,7 @@ pub(crate) fn push_dot(shapes: &mut Shapes, pen: &Pen, line: &Line) -> Mem<()>
 }
 
 /// Adds the bodies of segments.
-fn push_bodies(alloc: Global, shapes: &mut Shapes, pen: &Pen, segments: &[Segment]) -> Mem<()>
+fn push_bodies(alloc: Global, shapes: &mut Shapes, pen: &Pen, segments: &[LineSegment]) -> Mem<()>
     ensures ok { OnOk result (shapes.new ≡ shapes.old ++ map (body pen.now.half) segments.now) }
 {
     for segment in segments {
@@ -129,7 +130,7 @@ fn push_bodies(alloc: Global, shapes: &mut Shapes, pen: &Pen, segments: &[Segmen
 }
 
 /// Adds a segment as wide as the line.
-fn push_body(alloc: Global, shapes: &mut Shapes, pen: &Pen, s: Segment) -> Mem<()>
+fn push_body(alloc: Global, shapes: &mut Shapes, pen: &Pen, s: LineSegment) -> Mem<()>
     ensures ok { OnOk result (shapes.new ≡ shapes.old ++ body pen.now.half s ∷ []) }
 {
     let n = s.across(pen.wide_half());
@@ -151,10 +152,11 @@ fn push_joins(
     shapes: &mut Shapes,
     pen: &Pen,
     closed: bool,
-    first: Segment,
-    rest: &[Segment],
+    first: LineSegment,
+    rest: &[LineSegment],
 ) -> Mem<()>
-    ensures ok { OnOk result (shapes.new ≡ shapes.old ++ between (join_shapes pen.now) first (rest.now ++ closing closed first)) }
+    ensures ok { OnOk result (shapes.new ≡ shapes.old
+        ++ between (join_shapes pen.now) first (rest.now ++ closing closed first)) }
 {
     let mut at = first;
     for segment in rest {
@@ -173,8 +175,8 @@ fn push_caps(
     shapes: &mut Shapes,
     pen: &Pen,
     closed: bool,
-    first: Segment,
-    rest: &[Segment],
+    first: LineSegment,
+    rest: &[LineSegment],
 ) -> Mem<()>
     ensures ok { OnOk result (shapes.new ≡ shapes.old ++ caps pen.now closed first rest.now) }
 {
@@ -186,7 +188,7 @@ fn push_caps(
 }
 
 /// The last of a line's segments.
-fn last(first: Segment, rest: &[Segment]) -> Segment
+fn last(first: LineSegment, rest: &[LineSegment]) -> LineSegment
     ensures { result ≡ last_of first rest.now }
 {
     let mut at = first;
@@ -197,7 +199,7 @@ fn last(first: Segment, rest: &[Segment]) -> Segment
 }
 
 /// Adds what a cap paints where a line ends with a segment.
-fn push_end_cap(alloc: Global, shapes: &mut Shapes, pen: &Pen, s: Segment) -> Mem<()>
+fn push_end_cap(alloc: Global, shapes: &mut Shapes, pen: &Pen, s: LineSegment) -> Mem<()>
     ensures ok { OnOk result (shapes.new ≡ shapes.old ++ end_cap pen.now.cap pen.now.half s) }
 {
     let half = pen.wide_half();
@@ -209,7 +211,7 @@ fn push_end_cap(alloc: Global, shapes: &mut Shapes, pen: &Pen, s: Segment) -> Me
 }
 
 /// Adds what a cap paints where a line starts with a segment.
-fn push_start_cap(alloc: Global, shapes: &mut Shapes, pen: &Pen, s: Segment) -> Mem<()>
+fn push_start_cap(alloc: Global, shapes: &mut Shapes, pen: &Pen, s: LineSegment) -> Mem<()>
     ensures ok { OnOk result (shapes.new ≡ shapes.old ++ start_cap pen.now.cap pen.now.half s) }
 {
     let half = pen.wide_half();

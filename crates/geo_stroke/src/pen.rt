@@ -1,5 +1,6 @@
 //! The pen of a stroke: its width, caps, joins, miter limit and dashes.
-ghost use Rattle.std.specs.Prelude.{◌≡◌, ◌≤◌, ◌<◌, ◌^◌, ℤ, pos, [], ◌∷◌, ◌++◌, length, OnOk, OnErr, IsErrOf, ◌↔◌, ◌≤ℤ◌, unsigned_abs};
+ghost use Rattle.std.specs.Prelude.{◌≡◌, ◌≤◌, ◌<◌, ◌^◌, ℤ, pos, [], ◌∷◌, ◌++◌, length, OnOk, OnErr, IsErrOf, ◌↔◌, ◌≤ℤ◌};
+ghost use Rattle.std.specs.Prelude.{unsigned_abs};
 ghost use Rattle.geo_stroke.specs.Pen.{cap_of, join_of, is_solid, IsDash, IsPattern, IsPen};
 
 use press_fault::Grow;
@@ -141,7 +142,15 @@ impl Model for Pen {
 
     ghost Value = { PenValue };
 
-    ghost view = { λ p. record { half = p.half; cap = p.cap; join = p.join; miter = p.miter; dashes = p.dashes; offset = p.offset } };
+    ghost view = { λ p. record {
+      half = p.half;
+      cap = p.cap;
+      join = p.join;
+      miter = p.miter;
+      dashes = p.dashes;
+      offset =
+          p.offset;
+    } };
 
     ghost invariant = { λ p. IsPen p.half p.miter p.offset };
 }

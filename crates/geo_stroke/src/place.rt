@@ -1,20 +1,21 @@
 //! Places on a chain of segments, by their distance from its start in 1/65536 of a dot.
-ghost use Rattle.std.specs.Prelude.{◌≡◌, ◌≤◌, ◌<◌, ◌^◌, ◌+◌, ◌-◌, ◌*◌, [], ◌∷◌, ◌++◌, ℤ, pos, ◌<ℤ◌, ◌+ℤ◌, ◌*ℤ◌, unsigned_abs, nat_lt, OnOk, IfOk, MatchOption, if◌then◌else◌};
+ghost use Rattle.std.specs.Prelude.{◌≡◌, ◌≤◌, ◌<◌, ◌^◌, ◌+◌, ◌-◌, ◌*◌, [], ◌∷◌, ◌++◌, ℤ, pos, ◌<ℤ◌, ◌+ℤ◌, ◌*ℤ◌};
+ghost use Rattle.std.specs.Prelude.{unsigned_abs, nat_lt, OnOk, IfOk, MatchOption, if◌then◌else◌};
 ghost use Rattle.std.specs.List.{All};
 ghost use Rattle.press_nums.specs.Rounding.{div_round};
 ghost use Rattle.geo_matrix.specs.Affine.{IsNear};
 ghost use Rattle.geo_stroke.specs.Segment.{fine_length_of};
 ghost use Rattle.geo_stroke.specs.Dash.{place_on, point_at, dash_points, total_of};
-ghost use Rattle.geo_stroke.specs.Cursor.{IsCursor, IsAhead};
+ghost use Rattle.geo_stroke.specs.Code.Cursor.{IsCursor, IsAhead};
 
-use crate::segment::Segment;
+use crate::segment::LineSegment;
 use page_model::Ring;
 use press_fault::{Mem, Point};
 use press_nums::Wide;
 use std::alloc::Global;
 
 /// The length of a chain.
-pub(crate) fn total(first: Segment, rest: &[Segment]) -> u128
+pub(crate) fn total(first: LineSegment, rest: &[LineSegment]) -> u128
     ensures value { result ≡ total_of (first ∷ rest.now) }
     ensures bound { result ≤ 2 ^ 107 }
 {
@@ -26,7 +27,7 @@ pub(crate) fn total(first: Segment, rest: &[Segment]) -> u128
 }
 
 /// The point at a distance from a segment's start.
-pub(crate) fn point_at(s: Segment, distance: u128) -> Point
+pub(crate) fn point_at(s: LineSegment, distance: u128) -> Point
     requires { distance ≤ fine_length_of s }
     ensures value { result ≡ point_at (place_on s distance) }
     ensures near { IsNear result }
@@ -54,10 +55,10 @@ fn coordinate(from: Wide, step: Wide, distance: u128, whole: Wide) -> Wide
 /// The next segment and those behind it, where a distance from the start of the first one is beyond
 /// its end.
 fn following<'a>(
-    s: Segment,
-    rest: &'a [Segment],
+    s: LineSegment,
+    rest: &'a [LineSegment],
     distance: u128,
-) -> Option<(&'a Segment, &'a [Segment])>
+) -> Option<(&'a LineSegment, &'a [LineSegment])>
     requires { distance ≤ total_of (s ∷ rest.now) }
     ensures { MatchOption result (distance ≤ fine_length_of s)
         (λ p. (rest.now ≡ p.0.now ∷ p.1.now) × (fine_length_of s < distance)) }
@@ -72,13 +73,13 @@ fn following<'a>(
 /// Where one is on a chain: a segment, those behind it, and the length of those before it.
 #[derive(Clone, Copy)]
 pub(crate) struct Cursor<'a> {
-    pub here: Segment,
-    pub rest: &'a [Segment],
+    pub here: LineSegment,
+    pub rest: &'a [LineSegment],
     pub passed: u128,
 }
 
 /// Where a distance from a chain's start lies.
-fn advance(first: Segment, all: &[Segment], distance: u128) -> Cursor<'_>
+fn advance(first: LineSegment, all: &[LineSegment], distance: u128) -> Cursor<'_>
     requires { distance ≤ total_of (first ∷ all.now) }
     ensures cursor { IsCursor first all.now result.here result.rest.now result.passed }
     ensures ahead { IsAhead first all.now result.here result.rest.now result.passed distance }
@@ -99,8 +100,8 @@ fn advance(first: Segment, all: &[Segment], distance: u128) -> Cursor<'_>
 /// Where a distance from a chain's start lies. The way goes on from the cursor, and starts over where
 /// that isn't before the distance; so a chain is walked once by distances that rise.
 pub(crate) fn seek<'a>(
-    first: Segment,
-    all: &'a [Segment],
+    first: LineSegment,
+    all: &'a [LineSegment],
     cursor: Cursor<'a>,
     distance: u128,
 ) -> Cursor<'a>
@@ -125,8 +126,8 @@ pub(crate) fn seek<'a>(
 /// The points of a dash on a chain of segments, the first of which reaches its start.
 pub(crate) fn dash_points(
     alloc: Global,
-    first: Segment,
-    rest: &[Segment],
+    first: LineSegment,
+    rest: &[LineSegment],
     from: u128,
     to: u128,
 ) -> Mem<Ring>
@@ -154,7 +155,7 @@ pub(crate) fn dash_points(
 }
 
 /// Adds the end of a segment of this length where a dash begins before it.
-fn push_corner(points: &mut Ring, s: Segment, start: u128, length: u128) -> Mem<()>
+fn push_corner(points: &mut Ring, s: LineSegment, start: u128, length: u128) -> Mem<()>
     requires { All IsNear points.old }
     ensures ok { OnOk result (points.new ≡ points.old ++ (if nat_lt start length then s.to ∷ [] else [])) }
     ensures near { OnOk result (All IsNear points.new) }

@@ -1,9 +1,11 @@
 //! Segments of lines, and vectors along and across them.
-ghost use Rattle.std.specs.Prelude.{◌≡◌, ◌≤◌, ◌<◌, ◌^◌, ◌+◌, ◌*◌, ◌==◌, false, ℤ, pos, neg_ℤ, ◌≤ℤ◌, ◌<ℤ◌, ◌*ℤ◌, unsigned_abs, Some, None, if◌then◌else◌};
+ghost use Rattle.std.specs.Prelude.{◌≡◌, ◌≤◌, ◌<◌, ◌^◌, ◌+◌, ◌*◌, ◌==◌, false, ℤ, pos, neg_ℤ, ◌≤ℤ◌, ◌<ℤ◌, ◌*ℤ◌};
+ghost use Rattle.std.specs.Prelude.{unsigned_abs, Some, None, if◌then◌else◌};
 ghost use Rattle.press_nums.specs.Rounding.{div_round};
 ghost use Rattle.geo_matrix.specs.Affine.{IsNear};
 ghost use Rattle.press_nums.specs.Roots.{root};
-ghost use Rattle.geo_stroke.specs.Segment.{IsSegment, IsHalf, IsThin, IsFar, step_x, step_y, is_point, square_of, length_of, fine_length_of, HasLength, along, across, plus, minus, turned};
+ghost use Rattle.geo_stroke.specs.Segment.{IsLineSegment, IsHalf, IsThin, IsFar, step_x, step_y, is_point, square_of};
+ghost use Rattle.geo_stroke.specs.Segment.{length_of, fine_length_of, HasLength, along, across, plus, minus, turned};
 
 use press_fault::Point;
 use press_nums::{Wide, isqrt};
@@ -13,28 +15,29 @@ use std::marker::Model;
 ///
 /// Its length is kept, since a stroke asks for it at each dash, join and cap.
 #[derive(Clone, Copy)]
-pub(crate) struct Segment {
+pub(crate) struct LineSegment {
     from: Point,
     to: Point,
     /// In 1/65536 of a dot.
     length: u64,
 }
 
-impl Model for Segment {
-    ghost use Rattle.geo_stroke.specs.Segment.{Segment, IsSegment, HasLength, fine_length_of};
+impl Model for LineSegment {
+    ghost use Rattle.geo_stroke.specs.Segment.{LineSegmentValue, IsLineSegment, HasLength, fine_length_of};
 
-    ghost Value = { Segment };
+    ghost Value = { LineSegmentValue };
 
     ghost view = { λ s. record { from = s.from; to = s.to } };
 
-    ghost invariant = { λ s. IsSegment (record { from = s.from; to = s.to }) × HasLength (record { from = s.from; to = s.to }) s.length };
+    ghost invariant = { λ s. IsLineSegment (record { from = s.from; to = s.to }) ×
+        HasLength (record { from = s.from; to = s.to }) s.length };
 
     ghost inverse = { λ v. record { from = v.from; to = v.to; length = fine_length_of v } };
 
     ghost inverse_ok = { λ s h i. record { from = s.from; to = s.to; length = h.1.value i } };
 }
 
-impl Segment {
+impl LineSegment {
     /// Where it begins.
     pub(crate) fn from(self) -> Point
         ensures value { result ≡ self.from }
@@ -143,16 +146,17 @@ fn share(length: Wide, half: Wide, step: Wide) -> Wide
 }
 
 /// The segment from a point to another one; `None` exactly where they are the same.
-pub(crate) fn segment_of(from: Point, to: Point) -> Option<Segment>
+pub(crate) fn segment_of(from: Point, to: Point) -> Option<LineSegment>
     requires from { IsNear from }
     requires to { IsNear to }
-    ensures { result ≡ (if is_point (record { from = from; to = to }) then None else Some (record { from = from; to = to })) }
+    ensures { result ≡ (if is_point (record { from = from; to = to }) then None
+        else Some (record { from = from; to = to })) }
 {
     if (to.wide_x() - from.wide_x()).is_zero() && (to.wide_y() - from.wide_y()).is_zero() {
         None
     } else {
         let length = measured(from, to);
-        Some(Segment { from, to, length })
+        Some(LineSegment { from, to, length })
     }
 }
 
@@ -184,9 +188,9 @@ pub(crate) struct Vector {
 }
 
 impl Model for Vector {
-    ghost use Rattle.press_fault.specs.Plane.{Spot};
+    ghost use Rattle.press_fault.specs.Plane.{PointValue};
 
-    ghost Value = { Spot };
+    ghost Value = { PointValue };
 
     ghost view = { λ v. record { x = v.x; y = v.y } };
 

@@ -15,7 +15,7 @@ use std::alloc::Global;
 pub(crate) fn polygon(alloc: Global, points: &[Point]) -> Mem<Shape>
     ensures { IfOk result (λ shape. shape ≡ polygon points.now) }
 {
-    let mut rings = Rings::new(alloc);
+    let mut rings = Rings::with_room(alloc, 1)?;
     rings.push(ring(alloc, points)?)?;
     Ok(Shape::Poly(rings))
 }
@@ -23,7 +23,7 @@ pub(crate) fn polygon(alloc: Global, points: &[Point]) -> Mem<Shape>
 fn ring(alloc: Global, points: &[Point]) -> Mem<Ring>
     ensures { IfOk result (λ ring. ring ≡ points.now) }
 {
-    let mut ring = Ring::new(alloc);
+    let mut ring = Ring::with_room(alloc, points.len())?;
     for point in points {
         ring.push(*point)?;
     }

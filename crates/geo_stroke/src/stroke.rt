@@ -8,7 +8,7 @@ ghost use Rattle.geo_stroke.specs.Dash.{line_dashes, dashed_shapes, dash_count, 
 use crate::dashed::{push_dashed_line, room_behind_line};
 use crate::line::push_line;
 use crate::pen::Pen;
-use geo_path::Lines;
+use geo_path::Polylines;
 use page_model::Shapes;
 use press_fault::{Grow, Mem};
 use std::alloc::Global;
@@ -20,7 +20,7 @@ const MAX_STROKE_DASHES: u32 = 65536;
 /// or dash by dash, the bodies of its segments, its joins, its caps.
 ///
 /// `LimitCheck` exactly where the lines have more than 65,536 dashes; it is asked before memory is.
-pub fn outline(alloc: Global, lines: &Lines, pen: &Pen) -> Result<Shapes, Grow>
+pub fn outline(alloc: Global, lines: &Polylines, pen: &Pen) -> Result<Shapes, Grow>
     ensures ok { IfOk result (λ shapes. shapes ≡ outline_of pen.now lines.now) }
     ensures limit { (result ≡ Err Grow.LimitCheck) ↔ (65536 < dash_count pen.now lines.now) }
 {
@@ -36,7 +36,7 @@ pub fn outline(alloc: Global, lines: &Lines, pen: &Pen) -> Result<Shapes, Grow>
 }
 
 /// Whether the lines have few enough dashes.
-fn has_room(lines: &Lines, pen: &Pen) -> bool
+fn has_room(lines: &Polylines, pen: &Pen) -> bool
     ensures { result ≡ nat_le (dash_count pen.now lines.now) 65536 }
 {
     if pen.is_solid() {
@@ -53,7 +53,7 @@ fn has_room(lines: &Lines, pen: &Pen) -> bool
 }
 
 /// The shapes of lines under a solid pen.
-fn solid_outline(alloc: Global, lines: &Lines, pen: &Pen) -> Mem<Shapes>
+fn solid_outline(alloc: Global, lines: &Polylines, pen: &Pen) -> Mem<Shapes>
     ensures { IfOk result (λ shapes. shapes ≡ flat_map (line_shapes pen.now) lines.now) }
 {
     let mut shapes = Shapes::new(alloc);
@@ -64,7 +64,7 @@ fn solid_outline(alloc: Global, lines: &Lines, pen: &Pen) -> Mem<Shapes>
 }
 
 /// The shapes of lines under a pen with dashes.
-fn dashed_outline(alloc: Global, lines: &Lines, pen: &Pen) -> Mem<Shapes>
+fn dashed_outline(alloc: Global, lines: &Polylines, pen: &Pen) -> Mem<Shapes>
     requires { is_solid pen.now.dashes ≡ false }
     ensures { IfOk result (λ shapes. shapes ≡ flat_map (dashed_shapes pen.now) lines.now) }
 {

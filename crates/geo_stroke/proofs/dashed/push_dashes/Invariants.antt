@@ -1,7 +1,7 @@
 use Rattle.std.proofs.Common.{◌≡◌, ◌++◌, take}
 use Rattle.std.specs.List.{flat_map}
 use Rattle.geo_stroke.specs.Dash.{dash_shapes}
-use Rattle.geo_stroke.specs.Cursor.{IsCursor}
+use Rattle.geo_stroke.specs.Code.Cursor.{IsCursor}
 use Rattle.geo_stroke.proofs.dashed.push_dashes.Given as goal
 
 -- the shapes of the dashes so far

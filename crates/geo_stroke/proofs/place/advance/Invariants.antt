@@ -1,5 +1,5 @@
 use Rattle.std.proofs.Common.{◌≤◌, length}
-use Rattle.geo_stroke.specs.Cursor.{IsCursor, IsAhead}
+use Rattle.geo_stroke.specs.Code.Cursor.{IsCursor, IsAhead}
 use Rattle.geo_stroke.proofs.place.advance.Given as goal
 
 -- the way so far

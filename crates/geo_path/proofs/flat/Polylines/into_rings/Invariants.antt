@@ -1,5 +1,5 @@
 use Rattle.std.proofs.Common.{◌≡◌, map}
-use Rattle.geo_path.proofs.flat.Lines.into_rings.Given as goal
+use Rattle.geo_path.proofs.flat.Polylines.into_rings.Given as goal
 
 -- there is a ring for each line so far
 abbrev pub invariant-loop-line : goal.invariant-loop-line

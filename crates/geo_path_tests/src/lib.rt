@@ -1,15 +1,13 @@
-//! Cases by hand, with values from the rules.
+//! Paths by hand, with points from the rules of arcs and curves.
+#![tactic(auto)]
 
-use super::*;
 use geo_matrix::Matrix;
+use geo_path::{Path, PathFault, Polylines};
+use page_model::point;
 use press_fault::Point;
 use press_nums::Fix;
 use std::alloc::Global;
 use std::test::Fail;
-
-fn point(x: i32, y: i32) -> Point {
-    Point::new(i64::from(x), i64::from(y))
-}
 
 /// An arc round (x, 0) on a page of a dot per unit, by degrees.
 fn arc(
@@ -57,7 +55,7 @@ fn drawn(alloc: Global, letters: &str) -> Result<Path, PathFault> {
 }
 
 /// The points of all chains of lines.
-fn points_in(lines: &Lines) -> u64 {
+fn points_in(lines: &Polylines) -> u64 {
     let mut points: u64 = 0;
     for line in lines.items() {
         points = points.wrapping_add(line.points.items().len() as u64);
@@ -66,7 +64,7 @@ fn points_in(lines: &Lines) -> u64 {
 }
 
 /// How many chains of lines there are, how many are closed, and their points.
-fn counts(lines: &Lines) -> (usize, usize, u64) {
+fn counts(lines: &Polylines) -> (usize, usize, u64) {
     let closed = lines.items().iter().filter(|line| line.closed).count();
     (lines.items().len(), closed, points_in(lines))
 }
@@ -77,6 +75,13 @@ fn current_x(path: &Path) -> i64 {
         Some(p) => p.x,
         None => -1,
     }
+}
+
+/// What a path of these letters has.
+fn seen(alloc: Global, letters: &str) -> Result<((usize, usize, u64), u64, u32, i64), PathFault> {
+    let path = drawn(alloc, letters)?;
+    let lines = counts(&path.flatten()?);
+    Ok((lines, path.flat_count(), path.count(), current_x(&path)))
 }
 
 #[test]
@@ -97,17 +102,17 @@ fn subpaths_start_go_on_and_close(rt: HostRuntime) -> Result<(), Fail> {
         ("a circle behind closepath", "mzo", (2, 1, 259), 259, 256),
     ];
     for (name, letters, lines, count, x) in cases {
-        let path = drawn(rt.alloc(), letters)?;
-        assert_eq!(rt; counts(&path.flatten()?), lines, "{name}");
-        assert_eq!(rt; path.flat_count(), lines.2, "{name}");
-        assert_eq!(rt; path.count(), count, "{name}");
-        assert_eq!(rt; current_x(&path), x, "{name}");
+        assert_eq!(rt;
+            seen(rt.alloc(), letters)?,
+            (lines, lines.2, count, x),
+            "{name}"
+        );
     }
     Ok(())
 }
 
 /// The point at a place of the first chain of lines, and (-1, -1) where there is none.
-fn point_at(lines: &Lines, place: u64) -> (i64, i64) {
+fn point_at(lines: &Polylines, place: u64) -> (i64, i64) {
     let Some(first) = lines.items().first() else {
         return (-1, -1);
     };
@@ -117,11 +122,17 @@ fn point_at(lines: &Lines, place: u64) -> (i64, i64) {
     }
 }
 
-fn flat_curve(alloc: Global, p: Point, q: Point, r: Point) -> Result<Lines, PathFault> {
+fn flat_curve(alloc: Global, p: Point, q: Point, r: Point) -> Result<Polylines, PathFault> {
     let mut path = Path::new(alloc);
     path.move_to(point(0, 0))?;
     path.curve_to(p, q, r)?;
     Ok(path.flatten()?)
+}
+
+/// How many points a curve has, and the one at a place.
+fn piece(alloc: Global, x: i32, y: i32, place: u64) -> Result<(u64, (i64, i64)), PathFault> {
+    let flat = flat_curve(alloc, point(0, 0), point(0, 0), point(x, y))?;
+    Ok((points_in(&flat), point_at(&flat, place)))
 }
 
 #[test]
@@ -147,19 +158,33 @@ fn curves_have_pieces_by_their_length(rt: HostRuntime) -> Result<(), Fail> {
         ("far", i32::MAX, 0, 65, 64, (2147483647, 0)),
     ];
     for (name, x, y, points, place, want) in cases {
-        let flat = flat_curve(rt.alloc(), point(0, 0), point(0, 0), point(x, y))?;
-        assert_eq!(rt; points_in(&flat), points, "{name}");
-        assert_eq!(rt; point_at(&flat, place), want, "{name}");
+        assert_eq!(rt; piece(rt.alloc(), x, y, place)?, (points, want), "{name}");
     }
     Ok(())
 }
 
-fn unit_arc(alloc: Global, from: i64, to: i64, clockwise: bool) -> Result<Lines, Fail> {
+fn unit_arc(alloc: Global, from: i64, to: i64, clockwise: bool) -> Result<Polylines, Fail> {
     let from = Fix::of_raw(from).ok_or("out of range")?;
     let to = Fix::of_raw(to).ok_or("out of range")?;
     let mut path = Path::new(alloc);
     arc(&mut path, 0, 1, from, to, clockwise)?;
     Ok(path.flatten()?)
+}
+
+/// How many points an arc has, and its first and last.
+fn ends(
+    alloc: Global,
+    from: i64,
+    to: i64,
+    clockwise: bool,
+) -> Result<(u64, (i64, i64), (i64, i64)), Fail> {
+    let flat = unit_arc(alloc, from, to, clockwise)?;
+    let points = points_in(&flat);
+    Ok((
+        points,
+        point_at(&flat, 0),
+        point_at(&flat, points.wrapping_sub(1)),
+    ))
 }
 
 #[test]
@@ -254,10 +279,11 @@ fn arcs_have_a_point_at_each_step(rt: HostRuntime) -> Result<(), Fail> {
         ),
     ];
     for (name, from, to, clockwise, points, first, last) in cases {
-        let flat = unit_arc(rt.alloc(), from, to, clockwise)?;
-        assert_eq!(rt; points_in(&flat), points, "{name}");
-        assert_eq!(rt; point_at(&flat, 0), first, "{name}");
-        assert_eq!(rt; point_at(&flat, points.wrapping_sub(1)), last, "{name}");
+        assert_eq!(rt;
+            ends(rt.alloc(), from, to, clockwise)?,
+            (points, first, last),
+            "{name}"
+        );
     }
     Ok(())
 }
@@ -349,16 +375,31 @@ fn has_room(path: &Path, letters: &str) -> Result<bool, PathFault> {
     Ok(true)
 }
 
-#[test]
-fn a_path_holds_65536_points(rt: HostRuntime) -> Result<(), Fail> {
-    let mut path = Path::new(rt.alloc());
-    assert_eq!(rt; add(&mut path, b'l'), Err(PathFault::NoCurrentPoint));
-    assert_eq!(rt; add(&mut path, b'c'), Err(PathFault::NoCurrentPoint));
-    assert_eq!(rt; add(&mut path, b'f'), Err(PathFault::NoCurrentPoint));
+/// A path of 65,535 points.
+fn nearly_full(alloc: Global) -> Result<Path, PathFault> {
+    let mut path = Path::new(alloc);
     for _ in 0..255 {
         add(&mut path, b'o')?;
     }
-    assert_eq!(rt; path.count(), 65535);
+    Ok(path)
+}
+
+/// What the call of a letter answers on the path without subpaths.
+fn first(alloc: Global, letter: u8) -> Result<(), PathFault> {
+    let mut path = Path::new(alloc);
+    add(&mut path, letter)
+}
+
+#[test]
+fn lines_and_curves_need_a_current_point(rt: HostRuntime) {
+    for letter in [b'l', b'c', b'f'] {
+        assert_eq!(rt; first(rt.alloc(), letter), Err(PathFault::NoCurrentPoint));
+    }
+}
+
+#[test]
+fn a_path_holds_65536_points(rt: HostRuntime) -> Result<(), Fail> {
+    let path = nearly_full(rt.alloc())?;
     // name, what is added to 65535 points, whether there is room for all of it
     let cases = [
         ("a curve", "c", false),
@@ -372,10 +413,24 @@ fn a_path_holds_65536_points(rt: HostRuntime) -> Result<(), Fail> {
     for (name, letters, fits) in cases {
         assert_eq!(rt; has_room(&path, letters)?, fits, "{name}");
     }
+    Ok(())
+}
+
+/// A full path: what a move answers, its points, whether it is empty, and its rings.
+fn full(alloc: Global) -> Result<(Result<(), PathFault>, u32, bool, usize), PathFault> {
+    let mut path = nearly_full(alloc)?;
     add(&mut path, b'l')?;
-    assert_eq!(rt; add(&mut path, b'm'), Err(PathFault::LimitCheck));
-    assert!(rt; !path.is_empty());
-    let rings = path.flatten()?.into_rings(rt.alloc())?;
-    assert_eq!(rt; rings.items().len(), 1);
+    let answer = add(&mut path, b'm');
+    let rings = path.flatten()?.into_rings(alloc)?;
+    Ok((answer, path.count(), path.is_empty(), rings.items().len()))
+}
+
+#[test]
+fn a_full_path_takes_no_move(rt: HostRuntime) -> Result<(), Fail> {
+    assert_eq!(rt; nearly_full(rt.alloc())?.count(), 65535);
+    assert_eq!(rt;
+        full(rt.alloc())?,
+        (Err(PathFault::LimitCheck), 65536, false, 1)
+    );
     Ok(())
 }

@@ -1,6 +1,9 @@
-//! Cases at the edges, with values by hand.
+//! Matrices, points and angles at the edges of their ranges, with values by hand.
+#![tactic(auto)]
 
-use super::*;
+use geo_matrix::{
+    Matrix, RealPoint, back, by_dots, concat, cosine, det, device_of, sine, to_dots, turn, user_of,
+};
 use press_fault::Point;
 use press_nums::Fix;
 use std::test::Fail;
@@ -43,6 +46,12 @@ fn place(point: Option<RealPoint>) -> Option<(i64, i64)> {
         Some(point) => Some((point.x.raw(), point.y.raw())),
         None => None,
     }
+}
+
+/// The point of a user point by its raw values, and the step of them.
+fn dots(m: [i64; 6], x: i64, y: i64) -> Result<(Option<(i64, i64)>, Option<(i64, i64)>), Fail> {
+    let (m, x, y) = (matrix(m)?, fix(x)?, fix(y)?);
+    Ok((spot(to_dots(&m, x, y).ok()), spot(by_dots(&m, x, y).ok())))
 }
 
 #[test]
@@ -107,13 +116,19 @@ fn user_points_go_to_the_nearest_sub_dot(rt: HostRuntime) -> Result<(), Fail> {
         ),
     ];
     for (name, m, x, y, point, step) in cases {
-        let m = matrix(m)?;
-        let x = fix(x)?;
-        let y = fix(y)?;
-        assert_eq!(rt; spot(to_dots(&m, x, y).ok()), point, "{name}");
-        assert_eq!(rt; spot(by_dots(&m, x, y).ok()), step, "step of {name}");
+        assert_eq!(rt; dots(m, x, y)?, (point, step), "{name}");
     }
     Ok(())
+}
+
+/// The user point of a point in sub-dots, and of the same point by real numbers.
+fn users(m: [i64; 6], x: i32, y: i32) -> Result<(Option<(i64, i64)>, Option<(i64, i64)>), Fail> {
+    let m = matrix(m)?;
+    let (real_x, real_y) = (fix(i64::from(x) * 256)?, fix(i64::from(y) * 256)?);
+    Ok((
+        place(back(&m, point_at(x, y)).ok()),
+        place(user_of(&m, real_x, real_y).ok()),
+    ))
 }
 
 #[test]
@@ -163,20 +178,40 @@ fn points_go_back_to_the_nearest_real_number(rt: HostRuntime) -> Result<(), Fail
         ),
     ];
     for (name, m, x, y, user) in cases {
-        let m = matrix(m)?;
-        let point = point_at(x, y);
-        assert_eq!(rt; place(back(&m, point).ok()), user, "{name}");
-        let raw = user_of(&m, fix(i64::from(x) * 256)?, fix(i64::from(y) * 256)?).ok();
-        assert_eq!(rt; place(raw), user, "{name}, by real numbers");
+        assert_eq!(rt; users(m, x, y)?, (user, user), "{name}");
     }
-    let m = matrix([2 * ONE, 0, 0, -ONE, 0, 10 * ONE])?;
-    assert_eq!(rt;
-        place(device_of(&m, fix(3)?, fix(ONE)?).ok()),
-        Some((6, 9 * ONE))
-    );
-    assert_eq!(rt; place(device_of(&m, fix(TOP)?, fix(0)?).ok()), None);
-    assert_eq!(rt; det(&m), -8589934592);
     Ok(())
+}
+
+/// Where a matrix takes a user point by its raw values, as real numbers.
+fn device(m: [i64; 6], x: i64, y: i64) -> Result<Option<(i64, i64)>, Fail> {
+    Ok(place(device_of(&matrix(m)?, fix(x)?, fix(y)?).ok()))
+}
+
+#[test]
+fn device_points_are_real_numbers(rt: HostRuntime) -> Result<(), Fail> {
+    let m = [2 * ONE, 0, 0, -ONE, 0, 10 * ONE];
+    assert_eq!(rt; device(m, 3, ONE)?, Some((6, 9 * ONE)));
+    assert_eq!(rt; device(m, TOP, 0)?, None);
+    assert_eq!(rt; det(&matrix(m)?), -8589934592);
+    Ok(())
+}
+
+/// The elements of a matrix by their raw values.
+fn raws(m: Matrix) -> [i64; 6] {
+    [
+        m.a.raw(),
+        m.b.raw(),
+        m.c.raw(),
+        m.d.raw(),
+        m.tx.raw(),
+        m.ty.raw(),
+    ]
+}
+
+/// The product of two matrices, by raw values.
+fn joined(first: [i64; 6], then: [i64; 6]) -> Result<Option<[i64; 6]>, Fail> {
+    Ok(concat(&matrix(first)?, &matrix(then)?).ok().map(raws))
 }
 
 #[test]
@@ -214,22 +249,20 @@ fn products_put_the_first_matrix_first(rt: HostRuntime) -> Result<(), Fail> {
         ("moved too far", [ONE, 0, 0, ONE, TOP, 0], moved, None),
     ];
     for (name, first, then, product) in cases {
-        let want = match product {
-            Some(product) => Some(matrix(product)?),
-            None => None,
-        };
-        assert_eq!(rt;
-            concat(&matrix(first)?, &matrix(then)?).ok(),
-            want,
-            "{name}"
-        );
+        assert_eq!(rt; joined(first, then)?, product, "{name}");
     }
-    assert_eq!(rt; matrix([ONE, 0, 0, ONE, 0, 0])?, Matrix::identity());
+    assert_eq!(rt; raws(Matrix::identity()), [ONE, 0, 0, ONE, 0, 0]);
     Ok(())
 }
 
+/// Sine and cosine of so many degrees, by their raw values.
+fn by_degrees(degrees: i32) -> (i64, i64) {
+    let angle = Fix::of_int(degrees);
+    (sine(angle).raw(), cosine(angle).raw())
+}
+
 #[test]
-fn sines_are_those_of_a_table(rt: HostRuntime) -> Result<(), Fail> {
+fn sines_are_those_of_a_table(rt: HostRuntime) {
     // degrees, sine and cosine, by their raw values
     let cases = [
         (0, 0, 65536),
@@ -245,10 +278,7 @@ fn sines_are_those_of_a_table(rt: HostRuntime) -> Result<(), Fail> {
         (2147483647, 52339, -39441),
     ];
     for (degrees, sine_raw, cosine_raw) in cases {
-        let angle = Fix::of_int(degrees);
-        assert_eq!(rt; sine(angle).raw(), sine_raw, "sine of {degrees}");
-        assert_eq!(rt; cosine(angle).raw(), cosine_raw, "cosine of {degrees}");
+        assert_eq!(rt; by_degrees(degrees), (sine_raw, cosine_raw), "{degrees}");
     }
-    assert_eq!(rt; turn(Fix::of_int(90)), matrix([0, ONE, -ONE, 0, 0, 0])?);
-    Ok(())
+    assert_eq!(rt; raws(turn(Fix::of_int(90))), [0, ONE, -ONE, 0, 0, 0]);
 }

@@ -1,10 +1,12 @@
-//! Cases by hand, with values from the rules.
+//! Outlines by hand, with points from the rules of caps, joins, miters and dashes.
+#![tactic(auto)]
+
 ghost use Rattle.std.specs.Prelude.{◌<◌, ◌^◌};
 
-use super::*;
-use geo_path::{Lines, Path, PathFault};
-use page_model::{Shape, Shapes};
-use press_fault::{Grow, Point};
+use geo_path::{Path, PathFault, Polylines};
+use geo_stroke::{Cap, Dashes, Join, Pen, outline};
+use page_model::{Shape, Shapes, point};
+use press_fault::Grow;
 use press_nums::{Fix, Whole};
 use std::alloc::{AllocError, Global};
 use std::test::Fail;
@@ -15,7 +17,7 @@ fn place(letter: u8) -> i32 {
 }
 
 /// Lines through points of two letters each; `!` closes one, `|` starts another.
-fn drawn(alloc: Global, letters: &str) -> Result<Lines, PathFault> {
+fn drawn(alloc: Global, letters: &str) -> Result<Polylines, PathFault> {
     let mut path = Path::new(alloc);
     let mut column: Option<u8> = None;
     let mut is_move = true;
@@ -39,16 +41,15 @@ fn drawn(alloc: Global, letters: &str) -> Result<Lines, PathFault> {
 
 /// Moves or draws to a point.
 fn add(path: &mut Path, is_move: bool, x: i32, y: i32) -> Result<(), PathFault> {
-    let point = Point::new(i64::from(x), i64::from(y));
     if is_move {
-        path.move_to(point)
+        path.move_to(point(x, y))
     } else {
-        path.line_to(point)
+        path.line_to(point(x, y))
     }
 }
 
 /// A line from (0, 0) through two points, in sub-dots.
-fn corner(alloc: Global, x: i32, y: i32, end_x: i32, end_y: i32) -> Result<Lines, PathFault> {
+fn corner(alloc: Global, x: i32, y: i32, end_x: i32, end_y: i32) -> Result<Polylines, PathFault> {
     let mut path = Path::new(alloc);
     add(&mut path, true, 0, 0)?;
     add(&mut path, false, x, y)?;
@@ -117,7 +118,7 @@ fn shown(alloc: Global, shapes: &Shapes) -> Result<String, AllocError> {
 }
 
 /// What a pen paints along lines; `limit` where it is refused.
-fn outlined(alloc: Global, lines: &Lines, pen: &Pen) -> Result<String, Fail> {
+fn outlined(alloc: Global, lines: &Polylines, pen: &Pen) -> Result<String, Fail> {
     match outline(alloc, lines, pen) {
         Ok(shapes) => Ok(shown(alloc, &shapes)?),
         Err(Grow::LimitCheck) => Ok(String::from_str(alloc, "limit")?),
@@ -289,7 +290,8 @@ fn closed_lines_have_joins_all_round(rt: HostRuntime) -> Result<(), Fail> {
     assert_eq!(rt;
         behind(shapes.as_str(), 3),
         Some(
-            "1024,0 1024,-256 1280,-256 1280,0 ; 1024,1024 1280,1024 1280,1642 843,1205 ; 0,0 -181,181 -618,-256 0,-256 ; "
+            "1024,0 1024,-256 1280,-256 1280,0 ; 1024,1024 1280,1024 1280,1642 843,1205 ; \
+             0,0 -181,181 -618,-256 0,-256 ; "
         )
     );
     Ok(())
@@ -630,7 +632,8 @@ fn dashes_go_round_corners(rt: HostRuntime) -> Result<(), Fail> {
             2,
             "dc",
             "aa ca cc ac !",
-            "0,256 512,256 512,-256 0,-256 ; 256,0 256,256 768,256 768,0 ; 512,0 512,-256 768,0 ; 256,256 0,256 0,768 256,768 ; 256,512 256,0 -256,0 -256,512 ; 0,512 0,768 -256,512 ; ",
+            "0,256 512,256 512,-256 0,-256 ; 256,0 256,256 768,256 768,0 ; 512,0 512,-256 768,0 ; \
+             256,256 0,256 0,768 256,768 ; 256,512 256,0 -256,0 -256,512 ; 0,512 0,768 -256,512 ; ",
         ),
         (
             "each line from the offset",

@@ -1,7 +1,7 @@
 use Rattle.std.proofs.Common.{◌≡◌, ◌++◌, drop}
 use Rattle.geo_matrix.specs.Affine.{IsNear}
 use Rattle.geo_stroke.specs.Segment.{between, closing, segment_between}
-use Rattle.geo_stroke.proofs.line.Segments.push_chain.Given as goal
+use Rattle.geo_stroke.proofs.line.LineSegments.push_chain.Given as goal
 
 -- the segments so far, and those through the points that are left, are all of them
 abbrev pub invariant-loop-point : goal.invariant-loop-point
