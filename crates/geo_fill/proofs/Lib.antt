@@ -1,5 +1,10 @@
 pub mod Apart
 pub mod Swept
-pub mod Halving
 pub mod Counting
 pub mod Adding
+pub mod Moving
+pub mod Making
+pub mod Listing
+pub mod Walking
+pub mod Discs
+pub mod Walks

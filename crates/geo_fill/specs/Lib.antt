@@ -1,4 +1,3 @@
 pub mod Spans
-pub mod Sweep
-pub mod Crossings
-pub mod Steps
+pub mod Walk
+pub mod Code

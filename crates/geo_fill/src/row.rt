@@ -1,16 +1,16 @@
-//! The spans of a row: of a polygon by the crossings of its edges, of a disc column by column.
+//! The spans of one row, by a walk of one row; and the way along its crossings from left to right.
 ghost use Rattle.std.specs.Prelude.{◌≡◌, ◌≤◌, [], OnOk, OnErr, IfOk};
 ghost use Rattle.std.specs.List.{All};
-ghost use Rattle.page_model.specs.Inside.{rings_hold, is_inside as holds};
+ghost use Rattle.page_model.specs.Inside.{is_inside as holds};
 ghost use Rattle.page_model.specs.Cover.{shape_holds, region_holds};
 ghost use Rattle.geo_fill.specs.Spans.{HaveJust};
-ghost use Rattle.geo_fill.specs.Sweep.{AreBefore, AreTaken, IsEnded};
-ghost use Rattle.geo_fill.specs.Crossings.{winding_by, IsOfRange};
-ghost use Rattle.geo_fill.specs.Steps.{AreInOrder};
+ghost use Rattle.geo_fill.specs.Code.Sweep.{AreBefore, AreTaken, IsEnded};
+ghost use Rattle.geo_fill.specs.Code.Crossings.{winding_by, IsOfRange};
+ghost use Rattle.geo_fill.specs.Code.Steps.{AreInOrder};
 
-use crate::crossing::{Crossing, add_rings};
-use crate::{Span, Spans};
-use page_model::{Region, Ring, Rule, Shape, does_shape_hold};
+use crate::crossing::Crossing;
+use crate::{EdgeWalk, Span, Spans};
+use page_model::{Region, Rule, Shape};
 use press_fault::{Mem, NoMemory};
 use press_nums::Wide;
 
@@ -21,12 +21,36 @@ pub fn spans(shape: &Shape, rule: Rule, row: u32, from: u32, to: u32, out: &mut 
     ensures ok { OnOk result (HaveJust out.new from to (λ col. shape_holds rule row col shape.now)) }
     ensures err { OnErr result (out.new ≡ []) }
 {
-    out.clear();
-    let added = match shape {
-        Shape::Poly(rings) => add_polygon(rings.items(), rule, row, from, to, out),
-        Shape::Disc(_) => add_columns(shape, rule, row, from, to, out),
-    };
-    or_none(added, out)
+    let mut walk = out.take_walk();
+    let done = one_row(&mut walk, shape, rule, row, from, to, out);
+    out.keep_walk(walk);
+    done
+}
+
+/// Walks over the row of a shape.
+fn one_row(
+    walk: &mut EdgeWalk,
+    shape: &Shape,
+    rule: Rule,
+    row: u32,
+    from: u32,
+    to: u32,
+    out: &mut Spans,
+) -> Mem<()>
+    requires { from ≤ to }
+    ensures ok { OnOk result (HaveJust out.new from to (λ col. shape_holds rule row col shape.now)) }
+    ensures err { OnErr result (out.new ≡ []) }
+{
+    match walk.restart(shape, rule, row, 1) {
+        Ok(()) => {
+            walk.next_row(from, to, out)?;
+            Ok(())
+        }
+        Err(NoMemory) => {
+            out.clear();
+            Err(NoMemory)
+        }
+    }
 }
 
 /// Puts into `out`, in place of what is there, the columns of a row from `from` up to and without
@@ -36,13 +60,39 @@ pub fn region_spans(region: &Region, row: u32, from: u32, to: u32, out: &mut Spa
     ensures ok { OnOk result (HaveJust out.new from to (λ col. region_holds row col region.now)) }
     ensures err { OnErr result (out.new ≡ []) }
 {
-    out.clear();
-    let added = add_polygon(region.rings.items(), region.rule, row, from, to, out);
-    or_none(added, out)
+    let mut walk = out.take_walk();
+    let done = region_row(&mut walk, region, row, from, to, out);
+    out.keep_walk(walk);
+    done
+}
+
+/// Walks over the row of a region.
+fn region_row(
+    walk: &mut EdgeWalk,
+    region: &Region,
+    row: u32,
+    from: u32,
+    to: u32,
+    out: &mut Spans,
+) -> Mem<()>
+    requires { from ≤ to }
+    ensures ok { OnOk result (HaveJust out.new from to (λ col. region_holds row col region.now)) }
+    ensures err { OnErr result (out.new ≡ []) }
+{
+    match walk.restart_region(region, row, 1) {
+        Ok(()) => {
+            walk.next_row(from, to, out)?;
+            Ok(())
+        }
+        Err(NoMemory) => {
+            out.clear();
+            Err(NoMemory)
+        }
+    }
 }
 
 /// Takes the spans away where memory ran out.
-fn or_none(added: Mem<()>, out: &mut Spans) -> Mem<()>
+pub(crate) fn or_none(added: Mem<()>, out: &mut Spans) -> Mem<()>
     ensures same { result ≡ added }
     ensures ok { OnOk result (out.new ≡ out.old) }
     ensures err { OnErr result (out.new ≡ []) }
@@ -56,27 +106,20 @@ fn or_none(added: Mem<()>, out: &mut Spans) -> Mem<()>
     }
 }
 
-/// Finds the crossings of the edges with the row, and goes along them from left to right.
-fn add_polygon(rings: &[Ring], rule: Rule, row: u32, from: u32, to: u32, out: &mut Spans) -> Mem<()>
-    requires range { from ≤ to }
-    requires empty { out.old ≡ [] }
-    ensures { OnOk result (HaveJust out.new from to (rings_hold rule rings.now row)) }
-{
-    let mut crossings = out.take_room();
-    add_rings(&mut crossings, rings, row, from, to)?;
-    crossings.sort_unstable_by_key(|crossing| crossing.col);
-    sweep(&crossings, rule, from, to, out)?;
-    out.keep_room(crossings);
-    Ok(())
-}
-
 /// Adds the spans of a range by its crossings from left to right.
-fn sweep(crossings: &[Crossing], rule: Rule, from: u32, to: u32, out: &mut Spans) -> Mem<()>
+pub(crate) fn sweep(
+    crossings: &[Crossing],
+    rule: Rule,
+    from: u32,
+    to: u32,
+    out: &mut Spans,
+) -> Mem<()>
     requires order { AreInOrder from crossings.now }
     requires range { All (IsOfRange from to) crossings.now }
     requires some { from ≤ to }
     requires empty { out.old ≡ [] }
-    ensures { OnOk result (HaveJust out.new from to (λ col. holds rule (winding_by col crossings.now))) }
+    ensures { OnOk result (HaveJust out.new from to
+        (λ col. holds rule (winding_by col crossings.now))) }
 {
     let mut begun = None;
     let mut at = from;
@@ -90,6 +133,7 @@ fn sweep(crossings: &[Crossing], rule: Rule, from: u32, to: u32, out: &mut Spans
     end_span(out, begun, to)
 }
 
+/// Whether a winding number is inside, by a rule.
 fn is_inside(rule: Rule, winding: Wide) -> bool
     ensures { result ≡ holds rule winding }
 {
@@ -99,23 +143,8 @@ fn is_inside(rule: Rule, winding: Wide) -> bool
     }
 }
 
-/// Tests column by column, and adds each span when it ends.
-#[tactic(auto, using(crate::proofs::Swept::swept_one))]
-fn add_columns(shape: &Shape, rule: Rule, row: u32, from: u32, to: u32, out: &mut Spans) -> Mem<()>
-    requires range { from ≤ to }
-    requires empty { out.old ≡ [] }
-    ensures { OnOk result (HaveJust out.new from to (λ col. shape_holds rule row col shape.now)) }
-{
-    let mut begun = None;
-    for col in from..to {
-        let covered = does_shape_hold(rule, shape, row, col);
-        begun = take_columns(out, begun, col, col + 1, covered)?;
-    }
-    end_span(out, begun, to)
-}
-
-/// Takes more columns, which are all covered or none: the span that has begun goes on or ends, or one
-/// begins.
+/// Takes more columns, which are all covered or none: the span that has begun goes on or ends, or
+/// one begins.
 fn take_columns(
     out: &mut Spans,
     begun: Option<u32>,

@@ -1,6 +1,7 @@
 ghost use Rattle.std.specs.Prelude.{◌≡◌, [], ◌∷◌, ◌++◌, OnOk, OnErr};
 ghost use Rattle.geo_fill.specs.Spans.{AreApart, EndBefore};
 
+use crate::EdgeWalk;
 use crate::crossing::Crossing;
 use press_fault::Mem;
 use std::alloc::Global;
@@ -16,9 +17,9 @@ pub struct Span {
 
 impl Model for Span {
     ghost use Rattle.std.specs.Prelude.{◌<◌};
-    ghost use Rattle.geo_fill.specs.Spans.{Interval};
+    ghost use Rattle.geo_fill.specs.Spans.{SpanValue};
 
-    ghost Value = { Interval };
+    ghost Value = { SpanValue };
 
     ghost view = { λ s. record { first = s.first; end = s.end } };
 
@@ -34,13 +35,15 @@ pub struct Spans {
     spans: Vec<Span>,
     /// Room for the crossings of a row, kept from one row to the next.
     crossings: Vec<Crossing>,
+    /// Room for the edges of a shape of which one row is asked.
+    walk: EdgeWalk,
 }
 
 impl Model for Spans {
     ghost use Rattle.std.specs.Prelude.{List};
-    ghost use Rattle.geo_fill.specs.Spans.{Interval, AreApart};
+    ghost use Rattle.geo_fill.specs.Spans.{SpanValue, AreApart};
 
-    ghost Value = { List Interval };
+    ghost Value = { List SpanValue };
 
     ghost view = { λ s. s.spans.items };
 
@@ -56,6 +59,7 @@ impl Spans {
             alloc,
             spans: Vec::new(alloc),
             crossings: Vec::new(alloc),
+            walk: EdgeWalk::idle(alloc),
         }
     }
 
@@ -101,5 +105,19 @@ impl Spans {
         ensures { self.new ≡ self.old }
     {
         self.crossings = room;
+    }
+
+    /// A walk to begin anew, in the room that there is. The spans stay.
+    pub(crate) fn take_walk(&mut self) -> EdgeWalk
+        ensures { self.new ≡ self.old }
+    {
+        mem::replace(&mut self.walk, EdgeWalk::idle(self.alloc))
+    }
+
+    /// Gives its room back, for the next row.
+    pub(crate) fn keep_walk(&mut self, walk: EdgeWalk)
+        ensures { self.new ≡ self.old }
+    {
+        self.walk = walk;
     }
 }

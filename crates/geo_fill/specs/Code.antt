@@ -1,0 +1,4 @@
+pub mod Sweep
+pub mod Crossings
+pub mod Steps
+pub mod WalkSteps
