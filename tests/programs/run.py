@@ -10,8 +10,36 @@ ANSWER = ' {0} {1} ifelse initgraphics setgray 0 0 1 1 rectfill showpage'
 ANSWERS = {b'P6\n1 1\n255\n\0\0\0': 'true', b'P6\n1 1\n255\n\xff\xff\xff': 'false'}
 LETTERS = {b'\xff\xff\xff': 'W', b'\0\0\0': 'B', b'\xff\0\0': 'R'}
 ERROR = re.compile(r'[a-z]+ in \S+')
+LEFT = re.compile(r'leaves((?: (?:\([^()]*\)|[^\s()]+))*)')
 DOTS = re.compile(r'(?P<size>\d+x\d+)(?: at (?P<res>\d+))?(?: > (?P<page>\d+x\d+))?'
                   r': (?P<rows>[WBR]+(?: [WBR]+)*)')
+
+
+def is_operand(value):
+    """Asks whether the top operand is one of this type and value, and puts the answer in its place."""
+    if value in ('true', 'false', 'null', 'mark'):
+        return f'{value} eq'
+    if value in ('array', 'procedure'):
+        return f'dup xcheck {"" if value == "procedure" else "not "}exch type /arraytype eq and'
+    if value.startswith('--'):
+        return f'dup type /operatortype eq exch /{value.strip("-")} load eq and'
+    if re.fullmatch(r'-?\d+', value):
+        kind = 'integertype'
+    elif re.fullmatch(r'-?\d+\.\d+', value):
+        kind = 'realtype'
+    elif value.startswith('('):
+        kind = 'stringtype'
+    else:
+        mark = 'not ' if value.startswith('/') else ''
+        name = '/' + value.removeprefix('/')
+        return f'dup xcheck {mark}exch dup type /nametype eq exch {name} eq and and'
+    return f'dup type /{kind} eq exch {value} eq and'
+
+
+def are_operands(values):
+    """Asks whether these are all operands, the last one on top."""
+    asked = ' exch '.join(is_operand(value) + (' and' if at else '') for at, value in enumerate(reversed(values)))
+    return f' count {len(values)} eq {{{asked or "true"}}} {{false}} ifelse'
 
 
 class Malformed(Exception):
@@ -77,6 +105,10 @@ def seen_and_wanted(program, outcome):
     dotted = DOTS.fullmatch(outcome)
     if dotted:
         return picture(program, dotted)
+    left = LEFT.fullmatch(outcome)
+    if left:
+        values = re.findall(r'\([^()]*\)|[^\s()]+', left[1])
+        return shown(run(program + are_operands(values) + ANSWER, ['--size', '1x1']), ANSWERS), 'true'
     if outcome == 'ends':
         return shown(run(program, ['--size', '1x1']), {b'': 'ends'}), outcome
     if outcome in ANSWERS.values() or ERROR.fullmatch(outcome):

@@ -3,11 +3,12 @@
 use Rattle.std.specs.Prelude.{ℕ, Bool, true, false, List, [], ◌∷◌, codes, length, nat_le, if◌then◌else◌}
 use Rattle.press_fault.specs.declared.names.PsName.TheVariants.{StackUnderflow, TypeCheck, LimitCheck}
 use Rattle.ps_store.specs.declared.obj.Obj.{Obj}
-use Rattle.ps_store.specs.declared.obj.Obj.TheVariants.{Null, Mark, Bool as Boolean, Int, Real, Name, Text, Array, Dict, Oper as Operator, File}
+use Rattle.ps_store.specs.declared.obj.Obj.TheVariants.{Null, Mark, Bool as Boolean, Int, Real, Name, Text, Array, Dict}
+use Rattle.ps_store.specs.declared.obj.Obj.TheVariants.{Oper as Operator, File}
 use Rattle.ps_store.specs.Outcome.{Outcome, Goes, Refuses}
-use Rattle.ps_store.specs.Store.{Kept, bytes_of}
+use Rattle.ps_store.specs.Store.{StoreValue, bytes_of}
 
--- the operands with another object in place of the top one
+-- the operands with another object in place of the top one; without one, stackunderflow
 abbrev pub changed : (Obj → Obj) → List Obj → Outcome (List Obj)
 changed change (o ∷ rest) = Goes (change o ∷ rest)
 changed change [] = Refuses StackUnderflow
@@ -54,7 +55,8 @@ abbrev pub type_name : Obj → Obj
 type_name o = Name (type_of o) true
 
 -- `cvn`: the literal name of a string's bytes, of which there are at most 127
-abbrev pub cvn_row : List Obj → Kept → Outcome (List Obj)
-cvn_row (Text p ∷ rest) s = if nat_le (length (bytes_of s p)) 127 then Goes (Name (bytes_of s p) false ∷ rest) else Refuses LimitCheck
+abbrev pub cvn_row : List Obj → StoreValue → Outcome (List Obj)
+cvn_row (Text p ∷ rest) s = if nat_le (length (bytes_of s p)) 127 then Goes (Name (bytes_of s p) false ∷ rest)
+    else Refuses LimitCheck
 cvn_row (o ∷ rest) s = Refuses TypeCheck
 cvn_row [] s = Refuses StackUnderflow

@@ -1,7 +1,8 @@
 //! New strings, arrays and dictionaries, and what moves many elements of them.
 ghost use Rattle.std.specs.Prelude.{◌≡◌, ◌≢◌, ◌<◌, length, Err};
 ghost use Rattle.ps_store.specs.Outcome.{Answers, TellsRefusal};
-ghost use Rattle.ps_data_ops.specs.Composites.{count_of, refusal_of, array_row, string_row, dict_row, gathered_row, close_array_row, aload_row, astore_row};
+ghost use Rattle.ps_data_ops.specs.Composites.{count_of, refusal_of, array_row, string_row, dict_row, gathered_row};
+ghost use Rattle.ps_data_ops.specs.Composites.{close_array_row, aload_row, astore_row};
 
 use press_fault::{Grow, PsName};
 use press_nums::Whole;

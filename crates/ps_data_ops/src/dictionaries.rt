@@ -1,7 +1,8 @@
 //! Operators on dictionaries and on the dictionary stack.
 ghost use Rattle.std.specs.Prelude.{◌≡◌, ◌≢◌, ◌≤◌, length, drop, Err};
 ghost use Rattle.ps_store.specs.Outcome.{Answers, TellsRefusal, pushed};
-ghost use Rattle.ps_data_ops.specs.Dictionaries.{define_row, def_row, load_row, known_row, where_row, begin_row, end_row, current, home_row};
+ghost use Rattle.ps_data_ops.specs.Dictionaries.{define_row, def_row, load_row, known_row, where_row, begin_row};
+ghost use Rattle.ps_data_ops.specs.Dictionaries.{end_row, current, home_row};
 
 use crate::composites::refusal;
 use crate::elements::give;

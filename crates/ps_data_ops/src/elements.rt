@@ -9,7 +9,7 @@ ghost use Rattle.ps_data_ops.specs.Dictionaries.{length_row, got, get_row, put_r
 use crate::dictionaries::define;
 use press_fault::PsName;
 use press_nums::Whole;
-use ps_store::{KeyFault, Obj, OpFault, Span, Stack, Store, place_in};
+use ps_store::{KeyFault, Obj, OpFault, Part, Stack, Store, place_in};
 
 /// `length`: of a string, an array, a dictionary or a name.
 pub(crate) fn length(stack: &mut Stack, store: &Store) -> Result<(), OpFault>
@@ -73,7 +73,7 @@ pub(crate) fn get(stack: &mut Stack, store: &Store) -> Result<(), OpFault>
     }
 }
 
-fn get_at(stack: &mut Stack, store: &Store, i: Whole, span: Span) -> Result<(), OpFault>
+fn get_at(stack: &mut Stack, store: &Store, i: Whole, span: Part) -> Result<(), OpFault>
     requires { 2 ≤ list_length stack.old }
     ensures answers { Answers (or_range (place_of i span.len)
         (λ at. Goes (element store.now span at ∷ drop 2 stack.old))) result stack.old stack.new }
@@ -122,7 +122,7 @@ fn put_element(
     store: &mut Store,
     value: Obj,
     place: &Obj,
-    span: Span,
+    span: Part,
     mark: bool,
 ) -> Result<(), OpFault>
     requires { stack.old ≡ value ∷ place.now ∷ Obj.Array span mark ∷ drop 3 stack.old }
@@ -148,7 +148,7 @@ fn put_byte(
     store: &mut Store,
     value: &Obj,
     place: &Obj,
-    span: Span,
+    span: Part,
 ) -> Result<(), OpFault>
     requires { stack.old ≡ value.now ∷ place.now ∷ Obj.Text span ∷ drop 3 stack.old }
     ensures answers { Answers (put_row stack.old store.old) result

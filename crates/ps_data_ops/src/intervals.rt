@@ -5,7 +5,7 @@ ghost use Rattle.ps_data_ops.specs.Composites.{begin_of, interval_of, part_of, g
 
 use press_fault::PsName;
 use press_nums::Whole;
-use ps_store::{Obj, OpFault, Span, Stack, Store};
+use ps_store::{Obj, OpFault, Part, Stack, Store};
 
 /// Where a part of `len` places begins, `None` exactly where it is not within `whole` places.
 fn begin_in(at: Whole, len: u32, whole: u32) -> Option<u32>
@@ -38,11 +38,11 @@ fn interval_in(at: Whole, count: Whole, whole: u32) -> Option<(u32, u32)>
 }
 
 /// So many places of a part, from one of its own on.
-pub(crate) fn part(span: Span, at: u32, len: u32) -> Span
+pub(crate) fn part(span: Part, at: u32, len: u32) -> Part
     requires { at + len ≤ span.len }
     ensures { result ≡ part_of span at len }
 {
-    Span {
+    Part {
         id: span.id,
         start: span.start + at,
         len,

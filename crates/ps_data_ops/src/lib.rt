@@ -14,8 +14,3 @@ mod rows;
 mod values;
 
 pub use rows::run_data;
-
-#[cfg(test)]
-mod programs;
-#[cfg(test)]
-mod tests;

@@ -1,7 +1,8 @@
 //! `>>`: a dictionary of the pairs above a mark.
 ghost use Rattle.std.specs.Prelude.{◌≡◌, ◌≤◌, ◌<◌, [], length, reverse, take, IfOk};
 ghost use Rattle.ps_store.specs.Outcome.{Answers};
-ghost use Rattle.ps_data_ops.specs.Dictionaries.{TellsRefusalBut, close_dict_row, closed_row, is_no_key, lacks_key, entered};
+ghost use Rattle.ps_data_ops.specs.Dictionaries.{TellsRefusalBut, close_dict_row, closed_row, is_no_key, lacks_key};
+ghost use Rattle.ps_data_ops.specs.Dictionaries.{entered};
 
 use crate::composites::refusal;
 use press_fault::{Mem, PsName};

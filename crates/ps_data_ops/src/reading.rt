@@ -8,7 +8,7 @@ ghost use Rattle.ps_data_ops.specs.Reading.{readstring_row, readhexstring_row};
 use crate::intervals::part;
 use press_fault::PsName;
 use ps_scan::Scanner;
-use ps_store::{Obj, OpFault, Span, Stack, Store};
+use ps_store::{Obj, OpFault, Part, Stack, Store};
 
 /// `readstring`: bytes behind the last token into a string.
 pub(crate) fn readstring(
@@ -70,7 +70,7 @@ pub(crate) fn readhexstring(
 
 /// Puts the first `count` of the bytes that were read into the string, and on the operands the part
 /// that they fill and whether this is all of it.
-fn keep(stack: &mut Stack, store: &mut Store, span: Span, count: usize, bytes: &[u8])
+fn keep(stack: &mut Stack, store: &mut Store, span: Part, count: usize, bytes: &[u8])
     requires operands { 2 ≤ length stack.old }
     requires count { count ≤ span.len }
     requires bytes { length bytes.now ≡ span.len }

@@ -1,7 +1,8 @@
 //! Operators on single objects: their types and marks, and the constants.
 ghost use Rattle.std.specs.Prelude.{◌≡◌, ◌≢◌, ◌≤◌, length, Err};
 ghost use Rattle.ps_store.specs.Outcome.{Answers, pushed};
-ghost use Rattle.ps_data_ops.specs.Values.{changed, executable, literal, is_executable, mark_of, type_name, type_of, cvn_row};
+ghost use Rattle.ps_data_ops.specs.Values.{changed, executable, literal, is_executable, mark_of, type_name, type_of};
+ghost use Rattle.ps_data_ops.specs.Values.{cvn_row};
 
 use press_fault::{Name, PsName};
 use ps_store::{Obj, OpFault, Stack, Store};

@@ -1,7 +1,8 @@
 -- `bind` (PostScript Language Reference, third edition, 3.12.1 The bind Operator): executable names whose value is an
 -- operator are replaced by it, in a procedure and in every procedure that is reached through elements. A literal array
 -- is no procedure. Own rule: a procedure is its composite, start and length, and may be reached from itself.
-use Rattle.std.specs.Prelude.{◌≡◌, ℕ, suc, ◌+◌, ◌<◌, ◌==◌, ◌&&◌, ◌||◌, Bool, true, List, [], ◌∷◌, Option, Some, None, nat_le, nat_lt, option_and_then, if◌then◌else◌}
+use Rattle.std.specs.Prelude.{◌≡◌, ℕ, suc, ◌+◌, ◌<◌, ◌==◌, ◌&&◌, ◌||◌, Bool, true, List, [], ◌∷◌, Option, Some, None}
+use Rattle.std.specs.Prelude.{nat_le, nat_lt, option_and_then, if◌then◌else◌}
 use Rattle.std.specs.List.{filter_map, flat_map, list_any, range_with_len}
 use Rattle.ps_store.specs.declared.key.Key.TheVariants.{Named}
 use Rattle.ps_store.specs.declared.obj.Obj.{Obj}
@@ -10,91 +11,99 @@ use Rattle.ps_store.specs.declared.oper.Oper.{Oper}
 use Rattle.ps_store.specs.declared.store.Composite.{Composite}
 use Rattle.ps_store.specs.declared.store.Composite.TheVariants.{Array}
 use Rattle.ps_store.specs.Dicts.{find_key}
-use Rattle.ps_store.specs.Parts.{Part}
-use Rattle.ps_store.specs.Store.{Kept, object_at, operator_of}
+use Rattle.ps_store.specs.Parts.{PartValue}
+use Rattle.ps_store.specs.Store.{StoreValue, object_at, operator_of}
 
--- the operator that is the value of an executable name
-abbrev pub operator_named : List ℕ → Kept → Obj → Option Oper
+-- the operator that is the value of an executable name, if there is one
+abbrev pub operator_named : List ℕ → StoreValue → Obj → Option Oper
 operator_named dicts s (Name name true) = option_and_then operator_of (find_key s dicts (Named name))
 operator_named dicts s o = None
 
+-- the operator in place of an object, where there is one, else the object
 abbrev pub bound_to : Option Oper → Obj → Obj
 bound_to (Some op) o = Operator op
 bound_to None o = o
 
--- what an element of a procedure becomes
-abbrev pub bound : List ℕ → Kept → Obj → Obj
+-- what an element of a procedure becomes: a name of an operator that operator, all else stays
+abbrev pub bound : List ℕ → StoreValue → Obj → Obj
 bound dicts s o = bound_to (operator_named dicts s o) o
 
-abbrev pub procedure_of : Obj → Option Part
+-- the procedure that an object is, if it is one
+abbrev pub procedure_of : Obj → Option PartValue
 procedure_of (ArrayOf p true) = Some p
 procedure_of o = None
 
 -- the procedure that is an element of one, at a place
-abbrev pub procedure_at : Kept → Part → ℕ → Option Part
+abbrev pub procedure_at : StoreValue → PartValue → ℕ → Option PartValue
 procedure_at s p at = option_and_then procedure_of (object_at s p at)
 
 -- the procedures that are elements of one, at so many places from one on
-abbrev pub procedures_from : Kept → Part → ℕ → ℕ → List Part
+abbrev pub procedures_from : StoreValue → PartValue → ℕ → ℕ → List PartValue
 procedures_from s p at len = filter_map (procedure_at s p) (range_with_len at len)
 
 -- the procedures that are elements of one
-abbrev pub procedures_in : Kept → Part → List Part
+abbrev pub procedures_in : StoreValue → PartValue → List PartValue
 procedures_in s p = procedures_from s p 0 p.len
 
--- a procedure is reached from one through elements
-pub data Reaches (s : Kept) (p : Part) : Part → Type 0 where
+-- a procedure is reached from one, which is reached itself, through elements that are procedures
+pub data Reaches (s : StoreValue) (p : PartValue) : PartValue → Type 0 where
   here : Reaches s p p
-  further : (q r : Part) (at : ℕ) → Reaches s p q → at < q.len → procedure_at s q at ≡ Some r → Reaches s p r
+  further : (q r : PartValue) (at : ℕ) → Reaches s p q → at < q.len → procedure_at s q at ≡ Some r → Reaches s p r
 
-abbrev pub procedures_of : Composite → List Part
+-- the procedures that stand in a composite
+abbrev pub procedures_of : Composite → List PartValue
 procedures_of (Array items) = filter_map procedure_of items
 procedures_of c = []
 
 -- one procedure, and all that are elements of arrays
-abbrev pub procedures_with : Part → Kept → List Part
+abbrev pub procedures_with : PartValue → StoreValue → List PartValue
 procedures_with p s = p ∷ flat_map procedures_of s.made
 
-abbrev pub same_part : Part → Part → Bool
+-- whether two parts are the same places of one composite
+abbrev pub same_part : PartValue → PartValue → Bool
 same_part a b = (a.id == b.id) && ((a.start == b.start) && (a.len == b.len))
 
-abbrev pub has : List Part → Part → Bool
+-- whether a part is among others
+abbrev pub has : List PartValue → PartValue → Bool
 has parts p = list_any (same_part p) parts
 
 -- whether one procedure leads to another by way of these alone
-unfoldable pub leads : Kept → List Part → Part → Part → Bool
+unfoldable pub leads : StoreValue → List PartValue → PartValue → PartValue → Bool
 leads s [] p q = same_part p q || has (procedures_in s p) q
 leads s (r ∷ way) p q = leads s way p q || (leads s way p r && leads s way r q)
 
 -- whether a procedure is reached; a law says that this is Reaches
-unfoldable pub reaches : Kept → Part → Part → Bool
+unfoldable pub reaches : StoreValue → PartValue → PartValue → Bool
 reaches s p q = leads s (procedures_with p s) p q
 
 -- whether a place of a composite is one of a part
-abbrev pub covers : Part → ℕ → ℕ → Bool
+abbrev pub covers : PartValue → ℕ → ℕ → Bool
 covers q id at = (q.id == id) && (nat_le q.start at && nat_lt at (q.start + q.len))
 
 -- whether a place is one of a procedure that is reached
-unfoldable pub is_reached_place : Kept → Part → ℕ → ℕ → Bool
+unfoldable pub is_reached_place : StoreValue → PartValue → ℕ → ℕ → Bool
 is_reached_place s p id at = list_any (λ q. reaches s p q && covers q id at) (procedures_with p s)
 
 -- objects, changed at the places that pass a test
 unfoldable pub changed_items : (ℕ → Bool) → (Obj → Obj) → List Obj → List Obj
 changed_items test change [] = []
-changed_items test change (o ∷ items) = (if test 0 then change o else o) ∷ changed_items (λ at. test (suc at)) change items
+changed_items test change (o ∷ items) = (if test 0 then change o else o)
+    ∷ changed_items (λ at. test (suc at)) change items
 
+-- a composite with the elements changed at the places that pass a test, where it is an array
 abbrev pub changed_in : (ℕ → Bool) → (Obj → Obj) → Composite → Composite
 changed_in test change (Array items) = Array (changed_items test change items)
 changed_in test change c = c
 
+-- composites with the elements of arrays changed at the places that pass a test
 unfoldable pub changed_made : (ℕ → ℕ → Bool) → (Obj → Obj) → List Composite → List Composite
 changed_made test change [] = []
 changed_made test change (c ∷ made) = changed_in (test 0) change c ∷ changed_made (λ id. test (suc id)) change made
 
 -- the store with the elements of arrays changed at the places that pass a test
-abbrev pub changed_store : (ℕ → ℕ → Bool) → (Obj → Obj) → Kept → Kept
+abbrev pub changed_store : (ℕ → ℕ → Bool) → (Obj → Obj) → StoreValue → StoreValue
 changed_store test change s = record { made = changed_made test change s.made; units = s.units }
 
--- the store as bind of a procedure leaves it
-unfoldable pub bind_store : List ℕ → Kept → Part → Kept
+-- the store as `bind` of a procedure leaves it: the elements of all that are reached are bound
+unfoldable pub bind_store : List ℕ → StoreValue → PartValue → StoreValue
 bind_store dicts s p = changed_store (is_reached_place s p) (bound dicts s) s

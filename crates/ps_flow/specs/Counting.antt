@@ -10,7 +10,8 @@ use Rattle.ps_store.specs.declared.obj.Obj.TheVariants.{Int, Real}
 use Rattle.ps_flow.specs.declared.counter.Counter.{Counter}
 use Rattle.ps_flow.specs.declared.counter.Counter.TheVariants.{Integers, Reals}
 
--- the control variable is an integer where the first value and the step are
+-- the control variable of a `for`: an integer where the first value and the step are, else a real number, and none
+-- where one of them is no number
 abbrev pub counter_from : Obj → Obj → Option Counter
 counter_from (Int at) (Int step) = Some (Integers at step)
 counter_from (Int at) (Real step) = Some (Reals (raw_of_whole at) step)
@@ -23,7 +24,7 @@ abbrev pub value_of : Counter → Obj
 value_of (Integers at step) = Int at
 value_of (Reals at step) = Real at
 
--- past the limit in the step's direction
+-- past the limit in the step's direction: below it for a step below 0, else above it
 abbrev pub passes : ℤ → ℤ → ℤ → Bool
 passes at step limit = if int_lt step (pos 0) then int_lt at limit else int_lt limit at
 

@@ -2,9 +2,10 @@
 -- Types): the levels that are open, the innermost first. Own rules: what counts as a level, and when one goes.
 use Rattle.std.specs.Prelude.{ℤ, ◌+◌, ◌-◌, ◌==◌, Bool, true, false, List, [], ◌∷◌, Option, Some, None, if◌then◌else◌}
 use Rattle.ps_store.specs.declared.oper.FlowOp.{FlowOp}
-use Rattle.ps_store.specs.declared.oper.FlowOp.TheVariants.{Repeat as RepeatOp, Loop as LoopOp, For as ForOp, Forall as ForallOp}
+use Rattle.ps_store.specs.declared.oper.FlowOp.TheVariants.{Repeat as RepeatOp, Loop as LoopOp, For as ForOp}
+use Rattle.ps_store.specs.declared.oper.FlowOp.TheVariants.{Forall as ForallOp}
 use Rattle.ps_store.specs.declared.obj.Obj.{Obj}
-use Rattle.ps_store.specs.Parts.{Part}
+use Rattle.ps_store.specs.Parts.{PartValue}
 use Rattle.ps_flow.specs.declared.counter.Counter.{Counter}
 use Rattle.ps_flow.specs.declared.pushes.Pushes.{Pushes}
 use Rattle.ps_flow.specs.declared.pushes.Pushes.TheVariants.{Nothing, One, Two}
@@ -17,17 +18,17 @@ use Rattle.ps_flow.specs.declared.level.Offer.TheVariants as Offered
 use Rattle.ps_flow.specs.Counting.{is_past, value_of, next_of_counter}
 
 -- a part without its first place
-abbrev pub behind : Part → Part
+abbrev pub behind : PartValue → PartValue
 behind p = record { id = p.id; start = p.start + 1; len = p.len - 1 }
 
 -- no place of the same composite
-abbrev pub nothing_of : Part → Part
+abbrev pub nothing_of : PartValue → PartValue
 nothing_of p = record { id = p.id; start = 0; len = 0 }
 
 -- what comes next: the object at the first place of a part of a procedure, a turn of a loop with what it pushes, the
 -- end of a stopped, which gives false, or nothing, as no level is open
 pub data Upcoming : Type 0 where
-  Run : Part → Upcoming
+  Run : PartValue → Upcoming
   Turn : FlowOp → Pushes → Upcoming
   Passed : Upcoming
   Empty : Upcoming
@@ -44,13 +45,15 @@ pub record Given : Type 0 where
   pub level : Level
 
 -- the next place of a procedure, which is read while it runs; where nothing is left, what comes over
-abbrev pub running : Part → (Part → Level) → Given → Given
+abbrev pub running : PartValue → (PartValue → Level) → Given → Given
 running rest level over =
     if rest.len == 0 then over else record { gives = Gives (Run rest); level = level (behind rest) }
 
+-- a level gives a turn with what it pushes, and stays as this one
 abbrev pub begins : FlowOp → Pushes → Level → Given
 begins op pushes level = record { gives = Gives (Turn op pushes); level = level }
 
+-- a level gives nothing and goes
 abbrev pub ends : Level → Given
 ends level = record { gives = Ends; level = level }
 
@@ -59,6 +62,7 @@ pub record Value : Type 0 where
   pub value : Option Obj
   pub next : Option Counter
 
+-- the value of a `for` by its control variable and limit; none past the limit, or where there is no control variable
 abbrev pub for_turn : Option Counter → ℤ → Value
 for_turn None limit = record { value = None; next = None }
 for_turn (Some counter) limit =
@@ -66,28 +70,32 @@ for_turn (Some counter) limit =
     then record { value = None; next = Some counter }
     else record { value = Some (value_of counter); next = next_of_counter counter }
 
-abbrev pub for_given : Value → ℤ → Part → Part → Given
+-- what a `for` gives by the value of its next turn: a turn that pushes it, or nothing
+abbrev pub for_given : Value → ℤ → PartValue → PartValue → Given
 for_given turn limit body rest = elim turn.value [
   | None ↦ ends (For turn.next limit body rest)
   | Some value ↦ begins ForOp (One value) (For turn.next limit body body)
 ]
 
-abbrev pub forall_given : List Obj → Part → Part → Given
+-- what a `forall` gives by the items that are left: a turn that pushes the first, or nothing
+abbrev pub forall_given : List Obj → PartValue → PartValue → Given
 forall_given [] body rest = ends (Forall [] body rest)
 forall_given (o ∷ left) body rest = begins ForallOp (One o) (Forall left body body)
 
-abbrev pub entries_given : List (Obj × Obj) → Part → Part → Given
+-- what a `forall` of a dictionary gives by the entries that are left: a turn that pushes key and value, or nothing
+abbrev pub entries_given : List (Obj × Obj) → PartValue → PartValue → Given
 entries_given [] body rest = ends (ForallEntries [] body rest)
 entries_given ((key, value) ∷ left) body rest = begins ForallOp (Two key value) (ForallEntries left body body)
 
--- a loop whose body has nothing left begins its next turn, if it has one
+-- what a level gives, and the level then: a loop whose body has nothing left begins its next turn, if it has one
 abbrev pub given_of : Level → Given
 given_of (Procedure rest) = running rest Procedure (ends (Procedure rest))
 given_of (Stopped rest) = running rest Stopped (record { gives = Passes; level = Stopped rest })
 given_of (Loop body rest) = running rest (Loop body) (begins LoopOp Nothing (Loop body body))
 given_of (Repeat left body rest) = running rest (Repeat left body)
     (if left == 0 then ends (Repeat left body rest) else begins RepeatOp Nothing (Repeat (left - 1) body body))
-given_of (For next limit body rest) = running rest (For next limit body) (for_given (for_turn next limit) limit body rest)
+given_of (For next limit body rest) = running rest (For next limit body)
+    (for_given (for_turn next limit) limit body rest)
 given_of (Forall left body rest) = running rest (Forall left body) (forall_given left body rest)
 given_of (ForallEntries left body rest) = running rest (ForallEntries left body) (entries_given left body rest)
 
@@ -96,12 +104,14 @@ pub record Next : Type 0 where
   pub next : Upcoming
   pub levels : List Level
 
+-- what comes next by what the innermost level gives, and what the levels below it would say
 abbrev pub after : Advance → Level → List Level → Next → Next
 after Ends level below further = further
 after Passes level below further = record { next = Passed; levels = below }
 after (Gives next) level below further = record { next = next; levels = level ∷ below }
 
--- a level that gives nothing goes, and the one below it is asked. So a level stays while its last object is executed
+-- what comes next, and the levels then: a level that gives nothing goes, and the one below it is asked, but a `stopped`
+-- that goes is told first; so a level stays while its last object is executed
 abbrev pub next_of : List Level → Next
 next_of [] = record { next = Empty; levels = [] }
 next_of (level ∷ below) = after (given_of level).gives (given_of level).level below (next_of below)
@@ -120,16 +130,18 @@ offered Offered.Ends pushes = Ends
 offered Offered.Passes pushes = Passes
 offered (Offered.Gives next) pushes = Gives (told next pushes)
 
+-- whether a level is that of a `stopped`
 abbrev pub is_stopped : Level → Bool
 is_stopped (Stopped rest) = true
 is_stopped level = false
 
+-- whether a level is that of a loop
 abbrev pub is_loop : Level → Bool
 is_loop (Procedure rest) = false
 is_loop (Stopped rest) = false
 is_loop level = true
 
--- the levels below the innermost stopped
+-- the levels below the innermost `stopped`, none where there is none
 abbrev pub below_stopped : List Level → Option (List Level)
 below_stopped [] = None
 below_stopped (level ∷ below) = if is_stopped level then Some below else below_stopped below

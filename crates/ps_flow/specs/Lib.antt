@@ -4,6 +4,5 @@ pub mod Levels
 pub mod Course
 pub mod Binding
 pub mod Rows
-pub mod Visits
-pub mod BindSteps
 pub mod BindLaw
+pub mod Code

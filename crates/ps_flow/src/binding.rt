@@ -3,16 +3,16 @@ ghost use Rattle.std.specs.Prelude.{◌≡◌, OnOk, option_and_then};
 ghost use Rattle.ps_store.specs.Store.{object_at, operator_of};
 ghost use Rattle.ps_flow.specs.Binding.{bind_store, operator_named};
 ghost use Rattle.ps_flow.specs.BindLaw.{BindsExactly};
-ghost use Rattle.ps_flow.specs.BindSteps.{replaced, bound_at, bound_from, bound_all};
+ghost use Rattle.ps_flow.specs.Code.BindSteps.{replaced, bound_at, bound_from, bound_all};
 
 use crate::visits::{Visits, reached};
 use press_fault::Mem;
-use ps_store::{Dicts, Key, Obj, Oper, Span, Store};
+use ps_store::{Dicts, Key, Obj, Oper, Part, Store};
 use std::alloc::Global;
 
 /// Replaces the executable names whose value is an operator, in a procedure and in all that are reached through
 /// elements, each once.
-pub(crate) fn bind_procedure(alloc: Global, store: &mut Store, dicts: &Dicts, p: Span) -> Mem<()>
+pub(crate) fn bind_procedure(alloc: Global, store: &mut Store, dicts: &Dicts, p: Part) -> Mem<()>
     ensures value { OnOk result (store.new ≡ bind_store dicts.now store.old p) }
     ensures law { OnOk result (BindsExactly dicts.now store.old p store.new) }
 {
@@ -31,7 +31,7 @@ fn bind_all(store: &mut Store, dicts: &Dicts, visits: &Visits)
     }
 }
 
-fn bind_part(store: &mut Store, dicts: &Dicts, p: Span)
+fn bind_part(store: &mut Store, dicts: &Dicts, p: Part)
     ensures { store.new ≡ bound_from dicts.now store.old p 0 p.len }
 {
     for at in 0..p.len {
@@ -39,7 +39,7 @@ fn bind_part(store: &mut Store, dicts: &Dicts, p: Span)
     }
 }
 
-fn bind_place(store: &mut Store, dicts: &Dicts, p: Span, at: u32)
+fn bind_place(store: &mut Store, dicts: &Dicts, p: Part, at: u32)
     ensures { store.new ≡ bound_at dicts.now store.old p at }
 {
     if let Some(op) = operator_at(store, dicts, p, at) {
@@ -48,7 +48,7 @@ fn bind_place(store: &mut Store, dicts: &Dicts, p: Span, at: u32)
 }
 
 /// The operator that is the value of the executable name at a place.
-fn operator_at(store: &Store, dicts: &Dicts, p: Span, at: u32) -> Option<Oper>
+fn operator_at(store: &Store, dicts: &Dicts, p: Part, at: u32) -> Option<Oper>
     ensures { result ≡ option_and_then (operator_named dicts.now store.now) (object_at store.now p at) }
 {
     match store.at(p, at) {

@@ -1,12 +1,13 @@
 //! The execution stack.
-ghost use Rattle.std.specs.Prelude.{◌≡◌, ◌≤◌, ◌<◌, ◌∷◌, [], ◌↔◌, length, IsErr, OnOk, OnErr, OnSome, MatchOption, Some, None, true, false, take, reverse};
+ghost use Rattle.std.specs.Prelude.{◌≡◌, ◌≤◌, ◌<◌, ◌∷◌, [], ◌↔◌, length, IsErr, OnOk, OnErr, OnSome, MatchOption, Some};
+ghost use Rattle.std.specs.Prelude.{None, true, false, take, reverse};
 ghost use Rattle.ps_flow.specs.Levels.{next_of, told, below_stopped, below_loop, Next};
 
 use crate::level::{Level, NextObj, Offer, given};
 use crate::pushes::Pushes;
 use arrayvec::ArrayVec;
 use press_fault::ExecStackOverflow;
-use ps_store::Span;
+use ps_store::Part;
 use std::alloc::Global;
 use std::marker::Model;
 
@@ -64,7 +65,7 @@ impl Flow {
 
     /// Opens a level that runs the elements of a procedure, as for one found by a name. Where
     /// all levels are open it is refused, and they are as before.
-    pub fn call(&mut self, p: Span) -> Result<(), ExecStackOverflow>
+    pub fn call(&mut self, p: Part) -> Result<(), ExecStackOverflow>
         ensures ok { OnOk result (self.new ≡ Level.Procedure p ∷ self.old) }
         ensures full { IsErr result ↔ (250 ≤ length self.old) }
         ensures err { OnErr result (self.new ≡ self.old) }

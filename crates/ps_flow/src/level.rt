@@ -7,44 +7,44 @@ use crate::contents::{Objects, Pairs};
 use crate::counter::Counter;
 use crate::pushes::Pushes;
 use press_nums::Fix;
-use ps_store::{FlowOp, Obj, Span};
+use ps_store::{FlowOp, Obj, Part};
 
 /// A level: a procedure that runs, a loop with its body, or a `stopped` with what it runs.
 ///
 /// `rest` is the part of its procedure that hasn't run yet in this turn.
 #[derive(Drop)]
 pub enum Level {
-    Procedure(Span),
-    Stopped(Span),
+    Procedure(Part),
+    Stopped(Part),
     Loop {
-        body: Span,
-        rest: Span,
+        body: Part,
+        rest: Part,
     },
     /// `left` turns are to come.
     Repeat {
         left: u32,
-        body: Span,
-        rest: Span,
+        body: Part,
+        rest: Part,
     },
     /// The control variable of the next turn, `None` where the last sum was out of range, and the
     /// limit.
     For {
         next: Option<Counter>,
         limit: Fix,
-        body: Span,
-        rest: Span,
+        body: Part,
+        rest: Part,
     },
     /// The elements or bytes that are to come.
     Forall {
         left: Objects,
-        body: Span,
-        rest: Span,
+        body: Part,
+        rest: Part,
     },
     /// The keys and values that are to come.
     ForallEntries {
         left: Pairs,
-        body: Span,
-        rest: Span,
+        body: Part,
+        rest: Part,
     },
 }
 
@@ -56,7 +56,7 @@ impl Default for Level {
     ghost is_default = { λ level. level ≡ Procedure (record { id = 0; start = 0; len = 0 }) };
 
     fn default() -> Level {
-        Level::Procedure(Span {
+        Level::Procedure(Part {
             id: 0,
             start: 0,
             len: 0,
@@ -89,7 +89,7 @@ impl Level {
 #[derive(Clone, Copy, Debug, PartialEq, Eq)]
 pub enum NextObj {
     /// The object at the first place of this part of a procedure is to be executed.
-    Run(Span),
+    Run(Part),
     /// A loop of this operator begins a turn that pushes nothing.
     Turn(FlowOp),
     /// A loop of this operator begins a turn. What it pushes stands beside this, and is pushed once
@@ -132,7 +132,7 @@ pub(crate) fn given(level: &mut Level, pushes: &mut Pushes) -> Offer
     }
 }
 
-fn loop_given(body: Span, rest: &mut Span) -> Offer
+fn loop_given(body: Part, rest: &mut Part) -> Offer
     ensures { (pushes : Pushed) → given_of (Level.Loop body rest.old) ≡
         record { gives = offered result pushes; level = Level.Loop body rest.new } }
 {
@@ -143,7 +143,7 @@ fn loop_given(body: Span, rest: &mut Span) -> Offer
     next_place(rest, Offer::Ends)
 }
 
-fn repeat_given(left: &mut u32, body: Span, rest: &mut Span) -> Offer
+fn repeat_given(left: &mut u32, body: Part, rest: &mut Part) -> Offer
     ensures { (pushes : Pushed) → given_of (Level.Repeat left.old body rest.old) ≡
         record { gives = offered result pushes; level = Level.Repeat left.new body rest.new } }
 {
@@ -161,8 +161,8 @@ fn repeat_given(left: &mut u32, body: Span, rest: &mut Span) -> Offer
 fn for_given(
     next: &mut Option<Counter>,
     limit: Fix,
-    body: Span,
-    rest: &mut Span,
+    body: Part,
+    rest: &mut Part,
     pushes: &mut Pushes,
 ) -> Offer
     ensures { given_of (Level.For next.old limit body rest.old) ≡
@@ -179,7 +179,7 @@ fn for_given(
     next_place(rest, Offer::Ends)
 }
 
-fn forall_given(left: &mut Objects, body: Span, rest: &mut Span, pushes: &mut Pushes) -> Offer
+fn forall_given(left: &mut Objects, body: Part, rest: &mut Part, pushes: &mut Pushes) -> Offer
     ensures { given_of (Level.Forall left.old body rest.old) ≡
         record { gives = offered result pushes.new; level = Level.Forall left.new body rest.new } }
 {
@@ -194,7 +194,7 @@ fn forall_given(left: &mut Objects, body: Span, rest: &mut Span, pushes: &mut Pu
     next_place(rest, Offer::Ends)
 }
 
-fn entries_given(left: &mut Pairs, body: Span, rest: &mut Span, pushes: &mut Pushes) -> Offer
+fn entries_given(left: &mut Pairs, body: Part, rest: &mut Part, pushes: &mut Pushes) -> Offer
     ensures { given_of (Level.ForallEntries left.old body rest.old) ≡
         record { gives = offered result pushes.new; level = Level.ForallEntries left.new body rest.new } }
 {
@@ -210,7 +210,7 @@ fn entries_given(left: &mut Pairs, body: Span, rest: &mut Span, pushes: &mut Pus
 }
 
 /// The next place of a procedure, or what comes where nothing is left of it.
-fn next_place(rest: &mut Span, over: Offer) -> Offer
+fn next_place(rest: &mut Part, over: Offer) -> Offer
     ensures none { rest.old.len ≡ 0 → (result ≡ over) × (rest.new ≡ rest.old) }
     ensures some { 0 < rest.old.len → (result ≡ Offer.Gives (NextObj.Run rest.old)) × (rest.new ≡ behind rest.old) }
 {
@@ -218,7 +218,7 @@ fn next_place(rest: &mut Span, over: Offer) -> Offer
         return over;
     }
     let here = *rest;
-    *rest = Span {
+    *rest = Part {
         id: here.id,
         start: here.start + 1,
         len: here.len - 1,
@@ -241,10 +241,10 @@ fn next_value(next: &mut Option<Counter>, limit: Fix) -> Option<Obj>
 }
 
 /// No place of a composite.
-pub(crate) fn nothing_of(p: Span) -> Span
+pub(crate) fn nothing_of(p: Part) -> Part
     ensures { result ≡ nothing_of p }
 {
-    Span {
+    Part {
         id: p.id,
         start: 0,
         len: 0,

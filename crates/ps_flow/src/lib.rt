@@ -8,8 +8,6 @@ mod flow;
 mod level;
 mod pushes;
 mod rows;
-#[cfg(test)]
-mod tests;
 mod visits;
 
 pub use contents::{Objects, Pairs};

@@ -2,8 +2,10 @@
 ghost use Rattle.std.specs.Prelude.{◌≡◌, ◌≢◌, ◌≤◌, ◌<◌, length, drop, true, Err, IfOk, None, map};
 ghost use Rattle.ps_store.specs.Gathering.{elements};
 ghost use Rattle.ps_store.specs.Outcome.{TellsRefusal};
-ghost use Rattle.ps_flow.specs.Course.{Answers, AnswersAll, opens, with_levels};
-ghost use Rattle.ps_flow.specs.Rows.{flow_row, takes_memory, exec_row, if_row, ifelse_row, for_row, for_from, repeat_row, loop_row, forall_row, keys_and_values, exit_row, stop_row, stopped_row, bind_row};
+ghost use Rattle.ps_flow.specs.Course.{FlowAnswers, AnswersAll, opens, with_levels};
+ghost use Rattle.ps_flow.specs.Rows.{flow_row, takes_memory, exec_row, if_row, ifelse_row, for_row, for_from};
+ghost use Rattle.ps_flow.specs.Rows.{repeat_row, loop_row, forall_row, keys_and_values, exit_row, stop_row};
+ghost use Rattle.ps_flow.specs.Rows.{stopped_row, bind_row};
 ghost use Rattle.ps_flow.specs.Levels.{nothing_of};
 
 use crate::binding::bind_procedure;
@@ -13,7 +15,7 @@ use crate::flow::Flow;
 use crate::level::{Level, nothing_of};
 use press_fault::{Mem, PsName};
 use press_nums::Fix;
-use ps_store::{Dicts, FlowOp, Obj, OpFault, Span, Stack, Store, number};
+use ps_store::{Dicts, FlowOp, Obj, OpFault, Part, Stack, Store, number};
 use std::alloc::Global;
 
 /// What the operators answer: an object that is to be executed at once, or why not.
@@ -56,7 +58,7 @@ pub fn run_flow(
 /// Opens a level in the place of the top `n` operands.
 fn open(stack: &mut Stack, flow: &mut Flow, n: usize, level: Level, at_once: Option<Obj>) -> Then
     requires { n ≤ length stack.old }
-    ensures answers { Answers (opens level (drop n stack.old) flow.old at_once)
+    ensures answers { FlowAnswers (opens level (drop n stack.old) flow.old at_once)
         result stack.old flow.old stack.new flow.new }
     ensures never { result ≢ Err OpFault.NoMemory }
 {
@@ -69,7 +71,7 @@ fn open(stack: &mut Stack, flow: &mut Flow, n: usize, level: Level, at_once: Opt
 }
 
 fn exec(stack: &mut Stack, flow: &mut Flow) -> Then
-    ensures answers { Answers (exec_row stack.old flow.old) result stack.old flow.old stack.new flow.new }
+    ensures answers { FlowAnswers (exec_row stack.old flow.old) result stack.old flow.old stack.new flow.new }
     ensures never { result ≢ Err OpFault.NoMemory }
 {
     let Some(top) = stack.top() else {
@@ -86,7 +88,7 @@ fn exec(stack: &mut Stack, flow: &mut Flow) -> Then
 }
 
 fn if_(stack: &mut Stack, flow: &mut Flow) -> Then
-    ensures answers { Answers (if_row stack.old flow.old) result stack.old flow.old stack.new flow.new }
+    ensures answers { FlowAnswers (if_row stack.old flow.old) result stack.old flow.old stack.new flow.new }
     ensures never { result ≢ Err OpFault.NoMemory }
 {
     let Some((p, b)) = stack.top_two() else {
@@ -106,7 +108,7 @@ fn if_(stack: &mut Stack, flow: &mut Flow) -> Then
 }
 
 fn ifelse(stack: &mut Stack, flow: &mut Flow) -> Then
-    ensures answers { Answers (ifelse_row stack.old flow.old) result stack.old flow.old stack.new flow.new }
+    ensures answers { FlowAnswers (ifelse_row stack.old flow.old) result stack.old flow.old stack.new flow.new }
     ensures never { result ≢ Err OpFault.NoMemory }
 {
     let Some((otherwise, then, b)) = stack.top_three() else {
@@ -126,7 +128,7 @@ fn ifelse(stack: &mut Stack, flow: &mut Flow) -> Then
 }
 
 fn for_(stack: &mut Stack, flow: &mut Flow) -> Then
-    ensures answers { Answers (for_row stack.old flow.old) result stack.old flow.old stack.new flow.new }
+    ensures answers { FlowAnswers (for_row stack.old flow.old) result stack.old flow.old stack.new flow.new }
     ensures never { result ≢ Err OpFault.NoMemory }
 {
     let Some((p, limit, step, first)) = stack.top_four() else {
@@ -145,12 +147,12 @@ fn for_(stack: &mut Stack, flow: &mut Flow) -> Then
 fn for_from(
     stack: &mut Stack,
     flow: &mut Flow,
-    body: Span,
+    body: Part,
     counter: Option<Counter>,
     limit: Option<Fix>,
 ) -> Then
     requires { 4 ≤ length stack.old }
-    ensures answers { Answers (for_from counter limit body (drop 4 stack.old) flow.old)
+    ensures answers { FlowAnswers (for_from counter limit body (drop 4 stack.old) flow.old)
         result stack.old flow.old stack.new flow.new }
     ensures never { result ≢ Err OpFault.NoMemory }
 {
@@ -167,7 +169,7 @@ fn for_from(
 }
 
 fn repeat(stack: &mut Stack, flow: &mut Flow) -> Then
-    ensures answers { Answers (repeat_row stack.old flow.old) result stack.old flow.old stack.new flow.new }
+    ensures answers { FlowAnswers (repeat_row stack.old flow.old) result stack.old flow.old stack.new flow.new }
     ensures never { result ≢ Err OpFault.NoMemory }
 {
     let Some((p, n)) = stack.top_two() else {
@@ -188,7 +190,7 @@ fn repeat(stack: &mut Stack, flow: &mut Flow) -> Then
 }
 
 fn loop_(stack: &mut Stack, flow: &mut Flow) -> Then
-    ensures answers { Answers (loop_row stack.old flow.old) result stack.old flow.old stack.new flow.new }
+    ensures answers { FlowAnswers (loop_row stack.old flow.old) result stack.old flow.old stack.new flow.new }
     ensures never { result ≢ Err OpFault.NoMemory }
 {
     let Some(top) = stack.top() else {
@@ -205,7 +207,8 @@ fn loop_(stack: &mut Stack, flow: &mut Flow) -> Then
 }
 
 fn forall(stack: &mut Stack, flow: &mut Flow, store: &Store) -> Then
-    ensures answers { Answers (forall_row stack.old flow.old store.now) result stack.old flow.old stack.new flow.new }
+    ensures answers { FlowAnswers (forall_row stack.old flow.old store.now) result stack.old flow.old stack.new
+        flow.new }
     ensures refused { TellsRefusal (forall_row stack.old flow.old store.now) result }
 {
     let Some((p, over)) = stack.top_two() else {
@@ -233,11 +236,11 @@ fn forall_elements(
     stack: &mut Stack,
     flow: &mut Flow,
     store: &Store,
-    body: Span,
-    over: Span,
+    body: Part,
+    over: Part,
 ) -> Then
     requires { 2 ≤ length stack.old }
-    ensures answers { Answers
+    ensures answers { FlowAnswers
         (opens (Level.Forall (elements store.now over) body (nothing_of body)) (drop 2 stack.old) flow.old None)
         result stack.old flow.old stack.new flow.new }
     ensures refused { TellsRefusal
@@ -256,7 +259,7 @@ fn forall_elements(
 }
 
 /// The elements of an array, or the bytes of a string as integers, in order.
-fn contents(alloc: Global, store: &Store, over: Span) -> Mem<Vec<Obj>>
+fn contents(alloc: Global, store: &Store, over: Part) -> Mem<Vec<Obj>>
     ensures { IfOk result (λ items. items.items ≡ elements store.now over) }
 {
     let items = (0..over.len).map(|at| store.get(over, at)).collect(alloc)?;
@@ -264,13 +267,15 @@ fn contents(alloc: Global, store: &Store, over: Span) -> Mem<Vec<Obj>>
 }
 
 /// Opens the level of a `forall` over a dictionary, in the place of two operands.
-fn forall_entries(stack: &mut Stack, flow: &mut Flow, store: &Store, body: Span, dict: u32) -> Then
+fn forall_entries(stack: &mut Stack, flow: &mut Flow, store: &Store, body: Part, dict: u32) -> Then
     requires { 2 ≤ length stack.old }
-    ensures answers { Answers
-        (opens (Level.ForallEntries (keys_and_values store.now dict) body (nothing_of body)) (drop 2 stack.old) flow.old None)
+    ensures answers { FlowAnswers
+        (opens (Level.ForallEntries (keys_and_values store.now dict) body (nothing_of body))
+        (drop 2 stack.old) flow.old None)
         result stack.old flow.old stack.new flow.new }
     ensures refused { TellsRefusal
-        (opens (Level.ForallEntries (keys_and_values store.now dict) body (nothing_of body)) (drop 2 stack.old) flow.old None)
+        (opens (Level.ForallEntries (keys_and_values store.now dict) body (nothing_of body))
+        (drop 2 stack.old) flow.old None)
         result }
 {
     if flow.is_full() {
@@ -301,7 +306,7 @@ fn entries(alloc: Global, store: &Store, dict: u32) -> Mem<Vec<(Obj, Obj)>>
 }
 
 fn exit(stack: &mut Stack, flow: &mut Flow) -> Then
-    ensures answers { Answers (exit_row stack.old flow.old) result stack.old flow.old stack.new flow.new }
+    ensures answers { FlowAnswers (exit_row stack.old flow.old) result stack.old flow.old stack.new flow.new }
     ensures never { result ≢ Err OpFault.NoMemory }
 {
     if flow.leave_loop() {
@@ -312,7 +317,7 @@ fn exit(stack: &mut Stack, flow: &mut Flow) -> Then
 }
 
 fn stop(stack: &mut Stack, flow: &mut Flow) -> Then
-    ensures answers { Answers (stop_row stack.old flow.old) result stack.old flow.old stack.new flow.new }
+    ensures answers { FlowAnswers (stop_row stack.old flow.old) result stack.old flow.old stack.new flow.new }
     ensures never { result ≢ Err OpFault.NoMemory }
 {
     if flow.unwind() {
@@ -323,7 +328,7 @@ fn stop(stack: &mut Stack, flow: &mut Flow) -> Then
 }
 
 fn stopped(stack: &mut Stack, flow: &mut Flow) -> Then
-    ensures answers { Answers (stopped_row stack.old flow.old) result stack.old flow.old stack.new flow.new }
+    ensures answers { FlowAnswers (stopped_row stack.old flow.old) result stack.old flow.old stack.new flow.new }
     ensures never { result ≢ Err OpFault.NoMemory }
 {
     let Some(top) = stack.top() else {
@@ -333,7 +338,7 @@ fn stopped(stack: &mut Stack, flow: &mut Flow) -> Then
     match &top {
         Obj::Array(p, true) => open(stack, flow, 1, Level::Stopped(*p), None),
         _ => {
-            let nothing = Span {
+            let nothing = Part {
                 id: 0,
                 start: 0,
                 len: 0,

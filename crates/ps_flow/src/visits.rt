@@ -1,11 +1,12 @@
 //! The procedures that `bind` has reached.
-ghost use Rattle.std.specs.Prelude.{◌≡◌, [], ◌∷◌, ◌++◌, ◌+◌, ◌<◌, ◌^◌, length, OnOk, IfOk, OnSome, slice_get, Some, None};
-ghost use Rattle.ps_flow.specs.Visits.{with_visit, with_found, with_visits, AreReached};
+ghost use Rattle.std.specs.Prelude.{◌≡◌, [], ◌∷◌, ◌++◌, ◌+◌, ◌<◌, ◌^◌, length, OnOk, IfOk, OnSome, slice_get, Some};
+ghost use Rattle.std.specs.Prelude.{None};
+ghost use Rattle.ps_flow.specs.Code.Visits.{with_visit, with_found, with_visits, AreReached};
 ghost use Rattle.ps_flow.specs.Binding.{procedure_of, procedure_at, procedures_in};
 
 use indexmap::IndexSet;
 use press_fault::Mem;
-use ps_store::{Obj, Span, Store};
+use ps_store::{Obj, Part, Store};
 use std::alloc::Global;
 use std::marker::Model;
 
@@ -19,9 +20,9 @@ struct Visit {
 
 impl Model for Visit {
     ghost use Rattle.std.specs.Prelude.{◌≤◌, ◌+◌};
-    ghost use Rattle.ps_store.specs.Parts.{Part};
+    ghost use Rattle.ps_store.specs.Parts.{PartValue};
 
-    ghost Value = { Part };
+    ghost Value = { PartValue };
 
     ghost view = { λ v. record { id = v.id; start = v.start; len = v.len } };
 
@@ -31,7 +32,7 @@ impl Model for Visit {
 }
 
 impl Visit {
-    fn of(p: Span) -> Visit
+    fn of(p: Part) -> Visit
         ensures { result ≡ p }
     {
         Visit {
@@ -41,10 +42,10 @@ impl Visit {
         }
     }
 
-    fn span(&self) -> Span
+    fn span(&self) -> Part
         ensures { result ≡ self.now }
     {
-        Span {
+        Part {
             id: self.id,
             start: self.start,
             len: self.len,
@@ -60,9 +61,9 @@ pub(crate) struct Visits {
 
 impl Model for Visits {
     ghost use Rattle.std.specs.Prelude.{List};
-    ghost use Rattle.ps_store.specs.Parts.{Part};
+    ghost use Rattle.ps_store.specs.Parts.{PartValue};
 
-    ghost Value = { List Part };
+    ghost Value = { List PartValue };
 
     ghost view = { λ v. v.procedures.keys };
 }
@@ -77,7 +78,7 @@ impl Visits {
     }
 
     /// The procedure at a place.
-    pub(crate) fn at(&self, place: usize) -> Option<Span>
+    pub(crate) fn at(&self, place: usize) -> Option<Part>
         ensures value { result ≡ slice_get self.now place }
         ensures bound { OnSome result (place + 1 < 2 ^ 64) }
     {
@@ -89,7 +90,7 @@ impl Visits {
     }
 
     /// Adds a procedure, where it isn't there.
-    pub(crate) fn add(&mut self, p: Span) -> Mem<()>
+    pub(crate) fn add(&mut self, p: Part) -> Mem<()>
         ensures { OnOk result (self.new ≡ with_visit self.old p) }
     {
         self.procedures.insert_full(Visit::of(p))?;
@@ -97,7 +98,7 @@ impl Visits {
     }
 
     /// Adds what was found, where it is a procedure.
-    fn add_found(&mut self, found: Option<Span>) -> Mem<()>
+    fn add_found(&mut self, found: Option<Part>) -> Mem<()>
         ensures { OnOk result (self.new ≡ with_found self.old found) }
     {
         match found {
@@ -107,7 +108,7 @@ impl Visits {
     }
 
     /// Adds the procedures that are elements of one.
-    pub(crate) fn add_all(&mut self, store: &Store, p: Span) -> Mem<()>
+    pub(crate) fn add_all(&mut self, store: &Store, p: Part) -> Mem<()>
         ensures { OnOk result (self.new ≡ with_visits self.old (procedures_in store.now p)) }
     {
         for at in 0..p.len {
@@ -118,7 +119,7 @@ impl Visits {
 }
 
 /// The procedures that are reached from one through elements, with it.
-pub(crate) fn reached(alloc: Global, store: &Store, p: Span) -> Mem<Visits>
+pub(crate) fn reached(alloc: Global, store: &Store, p: Part) -> Mem<Visits>
     ensures { IfOk result (λ visits. AreReached store.now p visits) }
 {
     let mut visits = Visits::new(alloc);
@@ -132,7 +133,7 @@ pub(crate) fn reached(alloc: Global, store: &Store, p: Span) -> Mem<Visits>
 }
 
 /// The procedure at a place of one, if there is one.
-fn procedure_at(store: &Store, p: Span, at: u32) -> Option<Span>
+fn procedure_at(store: &Store, p: Part, at: u32) -> Option<Part>
     ensures { result ≡ procedure_at store.now p at }
 {
     match store.at(p, at) {
@@ -141,7 +142,7 @@ fn procedure_at(store: &Store, p: Span, at: u32) -> Option<Span>
     }
 }
 
-fn as_procedure(o: &Obj) -> Option<Span>
+fn as_procedure(o: &Obj) -> Option<Part>
     ensures { result ≡ procedure_of o.now }
 {
     match o {

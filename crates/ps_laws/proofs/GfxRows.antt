@@ -5,35 +5,44 @@ use Rattle.std.proofs.lemmas.Bool.{ltb-true}
 use Rattle.std.proofs.lemmas.List.{length-drop}
 use Rattle.ps_store.specs.declared.obj.Obj.{Obj}
 use Rattle.ps_store.specs.declared.obj.Obj.TheVariants.{Array, Real}
-use Rattle.ps_store.specs.declared.obj.Span.{Span}
+use Rattle.ps_store.specs.declared.obj.Part.{Part}
 use Rattle.ps_store.specs.declared.oper.GfxOp.{GfxOp}
 use Rattle.ps_store.specs.declared.oper.GfxOp.TheVariants as OnGfx
 use Rattle.ps_store.specs.Numbers.{raw_of}
 use Rattle.ps_store.specs.Outcome.{Outcome, Goes, Refuses, or_limit}
-use Rattle.ps_store.specs.Store.{Kept, with_array_of}
+use Rattle.ps_store.specs.Store.{StoreValue, with_array_of}
 use Rattle.page_model.specs.declared.shape.Rule.TheVariants.{Nonzero, EvenOdd}
 use Rattle.gfx_state.specs.Colour.{gray_of}
-use Rattle.gfx_state.specs.Graphics.{Graphics}
+use Rattle.gfx_state.specs.Graphics.{GfxValue}
 use Rattle.geo_matrix.specs.Affine.{identity}
-use Rattle.ps_gfx_ops.specs.Easel.{Easel}
-use Rattle.ps_gfx_ops.specs.Scene.{Scene, beside}
-use Rattle.ps_gfx_ops.specs.Colours.{one_component, setgray_row, three_components, setrgbcolor_row, four_components, setcmykcolor_row, on_easel}
+use Rattle.ps_gfx_ops.specs.Easel.{OperandsAndGraphics}
+use Rattle.ps_gfx_ops.specs.Scene.{GraphicsScene, beside}
+use Rattle.ps_gfx_ops.specs.Colours.{one_component, setgray_row, three_components, setrgbcolor_row, four_components}
+use Rattle.ps_gfx_ops.specs.Colours.{setcmykcolor_row, on_easel}
 use Rattle.ps_gfx_ops.specs.Matrices.{elements_of, matrix_row, currentmatrix_row}
 use Rattle.ps_gfx_ops.specs.Rows.{gfx_row}
 use Rattle.ps_laws.proofs.Operands.{Few, by_test, few_pushed}
-use Rattle.ps_laws.proofs.EaselRows.{After, Dropped, InPlace, OnTop, after_gsave, after_moveto, after_lineto, after_rmoveto, after_rlineto, after_curveto, after_rcurveto, after_arc, after_currentpoint, after_fill, after_setmatrix, after_concat, after_translate, after_scale, after_rotate, after_transform, after_itransform, after_stroke, after_clip, after_rectfill, after_rectstroke, after_rectclip, after_setlinewidth, after_setmiterlimit, after_setlinecap, after_setlinejoin, after_setdash, after_setpagedevice}
+use Rattle.ps_laws.proofs.EaselRows.{After, Dropped, InPlace, OnTop, after_gsave, after_moveto, after_lineto}
+use Rattle.ps_laws.proofs.EaselRows.{after_rmoveto, after_rlineto, after_curveto, after_rcurveto, after_arc}
+use Rattle.ps_laws.proofs.EaselRows.{after_currentpoint, after_fill, after_setmatrix, after_concat, after_translate}
+use Rattle.ps_laws.proofs.EaselRows.{after_scale, after_rotate, after_transform, after_itransform, after_stroke}
+use Rattle.ps_laws.proofs.EaselRows.{after_clip, after_rectfill, after_rectstroke, after_rectclip, after_setlinewidth}
+use Rattle.ps_laws.proofs.EaselRows.{after_setmiterlimit, after_setlinecap, after_setlinejoin, after_setdash}
+use Rattle.ps_laws.proofs.EaselRows.{after_setpagedevice}
 
 abbrev pub AtMost500 : List Obj → Type 0
 AtMost500 operands = length operands ≤ 500
 
-abbrev pub FewOfEasel : Outcome Easel → Type 0
+abbrev pub FewOfEasel : Outcome OperandsAndGraphics → Type 0
 FewOfEasel outcome = After AtMost500 outcome
 
-abbrev pub FewOfScene : Outcome Scene → Type 0
+-- a graphics operator that goes on leaves at most 500 operands
+abbrev pub FewOfScene : Outcome GraphicsScene → Type 0
 FewOfScene (Goes scene) = length scene.operands ≤ 500
 FewOfScene (Refuses name) = Unit {0}
 
-few_beside : (s : Kept) (outcome : Outcome Easel) → FewOfEasel outcome → FewOfScene (beside s outcome)
+few_beside : (s : StoreValue) (outcome : Outcome OperandsAndGraphics) → FewOfEasel outcome →
+    FewOfScene (beside s outcome)
 few_beside s (Goes easel) h = h
 few_beside s (Refuses name) h = tt
 
@@ -46,48 +55,58 @@ few_in_place os h a b = let l = length-drop 2 os in omega arith
 few_on_top : (os : List Obj) → OnTop AtMost500 os
 few_on_top os a b h = omega arith
 
-few_on_easel : (g : Graphics) (outcome : Outcome (List Obj)) → Few outcome → FewOfEasel (on_easel g outcome)
+few_on_easel : (g : GfxValue) (outcome : Outcome (List Obj)) → Few outcome → FewOfEasel (on_easel g outcome)
 few_on_easel g (Goes operands) h = h
 few_on_easel g (Refuses name) h = tt
 
-few_one : (gray : Option ℤ) (rest : List Obj) (g : Graphics) → length rest ≤ 500 → FewOfEasel (one_component gray rest g)
+few_one : (gray : Option ℤ) (rest : List Obj) (g : GfxValue) → length rest ≤ 500 →
+    FewOfEasel (one_component gray rest g)
 few_one (Some gray) rest g h = h
 few_one gray rest g h = tt
 
-few_setgray : (operands : List Obj) (g : Graphics) → length operands ≤ 500 → FewOfEasel (setgray_row operands g)
+few_setgray : (operands : List Obj) (g : GfxValue) → length operands ≤ 500 → FewOfEasel (setgray_row operands g)
 few_setgray (gray ∷ rest) g h = few_one (raw_of gray) rest g (omega arith)
 few_setgray operands g h = tt
 
-few_three : (red green blue : Option ℤ) (rest : List Obj) (g : Graphics) → length rest ≤ 500 → FewOfEasel (three_components red green blue rest g)
+few_three : (red green blue : Option ℤ) (rest : List Obj) (g : GfxValue) → length rest ≤ 500 →
+    FewOfEasel (three_components red green blue rest g)
 few_three (Some red) (Some green) (Some blue) rest g h = h
 few_three red green blue rest g h = tt
 
-few_setrgbcolor : (operands : List Obj) (g : Graphics) → length operands ≤ 500 → FewOfEasel (setrgbcolor_row operands g)
-few_setrgbcolor (blue ∷ green ∷ red ∷ rest) g h = few_three (raw_of red) (raw_of green) (raw_of blue) rest g (omega arith)
+few_setrgbcolor : (operands : List Obj) (g : GfxValue) → length operands ≤ 500 → FewOfEasel (setrgbcolor_row operands g)
+few_setrgbcolor (blue ∷ green ∷ red ∷ rest) g h =
+    few_three (raw_of red) (raw_of green) (raw_of blue) rest g (omega arith)
 few_setrgbcolor operands g h = tt
 
-few_four : (cyan magenta yellow black : Option ℤ) (rest : List Obj) (g : Graphics) → length rest ≤ 500 → FewOfEasel (four_components cyan magenta yellow black rest g)
+few_four : (cyan magenta yellow black : Option ℤ) (rest : List Obj) (g : GfxValue) → length rest ≤ 500 →
+    FewOfEasel (four_components cyan magenta yellow black rest g)
 few_four (Some cyan) (Some magenta) (Some yellow) (Some black) rest g h = h
 few_four cyan magenta yellow black rest g h = tt
 
-few_setcmykcolor : (operands : List Obj) (g : Graphics) → length operands ≤ 500 → FewOfEasel (setcmykcolor_row operands g)
-few_setcmykcolor (black ∷ yellow ∷ magenta ∷ cyan ∷ rest) g h = few_four (raw_of cyan) (raw_of magenta) (raw_of yellow) (raw_of black) rest g (omega arith)
+few_setcmykcolor : (operands : List Obj) (g : GfxValue) → length operands ≤ 500 →
+    FewOfEasel (setcmykcolor_row operands g)
+few_setcmykcolor (black ∷ yellow ∷ magenta ∷ cyan ∷ rest) g h =
+    few_four (raw_of cyan) (raw_of magenta) (raw_of yellow) (raw_of black) rest g (omega arith)
 few_setcmykcolor operands g h = tt
 
-few_new : (made : Option (Span × Kept)) (os : List Obj) (g : Graphics) → length os < 500 → FewOfScene (or_limit made (λ new. Goes (record { operands = Array new.0 false ∷ os; store = new.1; graphics = g })))
+few_new : (made : Option (Part × StoreValue)) (os : List Obj) (g : GfxValue) → length os < 500 →
+    FewOfScene (or_limit made (λ new. Goes (record { operands = Array new.0 false ∷ os; store = new.1; graphics = g })))
 few_new (Some new) os g h = omega arith
 few_new None os g h = tt
 
-few_matrix : (os : List Obj) (s : Kept) (g : Graphics) → FewOfScene (matrix_row os s g)
+few_matrix : (os : List Obj) (s : StoreValue) (g : GfxValue) → FewOfScene (matrix_row os s g)
 few_matrix os s g = by_test FewOfScene (nat_lt (length os) 500) _ _
     (λ e. few_new (with_array_of s (elements_of identity)) os g (ltb-true (length os) 500 e)) (λ e. tt)
 
-few_currentmatrix : (os : List Obj) (s : Kept) (g : Graphics) → length os ≤ 500 → FewOfScene (currentmatrix_row os s g)
+few_currentmatrix : (os : List Obj) (s : StoreValue) (g : GfxValue) → length os ≤ 500 →
+    FewOfScene (currentmatrix_row os s g)
 few_currentmatrix (Array p x ∷ rest) s g h = by_test FewOfScene (nat_lt p.len 6) (Refuses _) _ (λ e. tt) (λ e. h)
 few_currentmatrix (o ∷ rest) s g h = tt
 few_currentmatrix [] s g h = tt
 
-pub gfx_few : (op : GfxOp) (operands : List Obj) (s : Kept) (g : Graphics) → length operands ≤ 500 → FewOfScene (gfx_row op operands s g)
+-- each graphics operator leaves at most 500 operands
+pub gfx_few : (op : GfxOp) (operands : List Obj) (s : StoreValue) (g : GfxValue) → length operands ≤ 500 →
+    FewOfScene (gfx_row op operands s g)
 unfolding gfx_row
 gfx_few OnGfx.Gsave os s g h = few_beside s _ (after_gsave AtMost500 os g (few_dropped os h))
 gfx_few OnGfx.Grestore os s g h = h
@@ -99,7 +118,8 @@ gfx_few OnGfx.Setlinecap os s g h = few_beside s _ (after_setlinecap AtMost500 o
 gfx_few OnGfx.Setlinejoin os s g h = few_beside s _ (after_setlinejoin AtMost500 os g (few_dropped os h))
 gfx_few OnGfx.Setdash os s g h = few_beside s _ (after_setdash AtMost500 os s g (few_dropped os h))
 gfx_few OnGfx.Currentlinewidth os s g h = few_beside s _ (few_on_easel g _ (few_pushed (Real g.state.line.width) os))
-gfx_few OnGfx.Currentgray os s g h = few_beside s _ (few_on_easel g _ (few_pushed (Real (gray_of g.state.space g.state.code.c)) os))
+gfx_few OnGfx.Currentgray os s g h = few_beside s _
+    (few_on_easel g _ (few_pushed (Real (gray_of g.state.space g.state.code.c)) os))
 gfx_few OnGfx.Setgray os s g h = few_beside s _ (few_setgray os g h)
 gfx_few OnGfx.Setrgbcolor os s g h = few_beside s _ (few_setrgbcolor os g h)
 gfx_few OnGfx.Setcmykcolor os s g h = few_beside s _ (few_setcmykcolor os g h)

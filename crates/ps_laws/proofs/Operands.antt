@@ -12,13 +12,16 @@ Few (Goes operands) = length operands ≤ 500
 Few (Refuses name) = Unit {0}
 
 -- a test chooses
-pub by_test : {S : Type 0} (P : S → Type 0) (b : Bool) (x y : S) → (b ≡ true → P x) → (b ≡ false → P y) → P (if b then x else y)
+pub by_test : {S : Type 0} (P : S → Type 0) (b : Bool) (x y : S) → (b ≡ true → P x) → (b ≡ false → P y) →
+    P (if b then x else y)
 by_test P b x y f g = cond_both b x y P f g
 
+-- a push leaves at most 500 operands
 pub few_pushed : (o : Obj) (operands : List Obj) → Few (pushed o operands)
 few_pushed o operands = by_test Few (nat_lt (length operands) 500) (Goes (o ∷ operands)) _
     (λ e. let h = ltb-true (length operands) 500 e in omega arith) (λ e. tt)
 
+-- a value in the place of operands leaves at most 500
 pub few_with_value : (value : Result Obj PsName) (rest : List Obj) → length rest < 500 → Few (with_value value rest)
 few_with_value (Ok o) rest h = omega arith
 few_with_value (Err name) rest h = tt

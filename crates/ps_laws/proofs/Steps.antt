@@ -13,13 +13,13 @@ use Rattle.ps_store.specs.declared.oper.FlowOp.TheVariants as OnFlow
 use Rattle.ps_store.specs.declared.oper.PageOp.TheVariants.{Quit, Showpage}
 use Rattle.ps_store.specs.declared.key.Key.TheVariants.{Named}
 use Rattle.ps_store.specs.Operators.{name_of, flow_name_of}
-use Rattle.ps_store.specs.Store.{Kept}
-use Rattle.ps_store.specs.Desk.{Desk}
+use Rattle.ps_store.specs.Store.{StoreValue}
+use Rattle.ps_store.specs.Desk.{OperandsAndStore}
 use Rattle.ps_store.specs.Dicts.{find_key}
 use Rattle.ps_store.specs.Outcome.{Outcome, Goes as GoesOn, Refuses}
 use Rattle.ps_stack_ops.specs.Rows.{stack_row}
-use Rattle.ps_data_ops.specs.Rows.{Work, data_row}
-use Rattle.ps_gfx_ops.specs.Scene.{Scene}
+use Rattle.ps_data_ops.specs.Rows.{DataState, data_row}
+use Rattle.ps_gfx_ops.specs.Scene.{GraphicsScene}
 use Rattle.ps_gfx_ops.specs.Rows.{gfx_row}
 use Rattle.ps_flow.specs.declared.level.Level.{Level}
 use Rattle.ps_flow.specs.declared.level.Level.TheVariants.{Procedure}
@@ -27,11 +27,13 @@ use Rattle.ps_flow.specs.declared.pushes.Pushes.{Pushes}
 use Rattle.ps_flow.specs.declared.pushes.Pushes.TheVariants.{Nothing, One, Two}
 use Rattle.ps_flow.specs.Pushes.{with_pushes, number_of_pushes}
 use Rattle.ps_flow.specs.Levels.{is_stopped}
-use Rattle.ps_flow.specs.Course.{Course}
+use Rattle.ps_flow.specs.Course.{OperandsAndLevels}
 use Rattle.ps_flow.specs.Rows.{flow_row}
-use Rattle.ps_machine.specs.State.{State}
-use Rattle.ps_machine.specs.Errors.{Step, Goes, Caught, Lands, Falls, caught, after_caught, failed, pushes, counted}
-use Rattle.ps_machine.specs.Steps.{after_stack, work_of, after_data, after_gfx, after_flow, after_stop, operate_flow, operate, call, execute_value, execute, turned}
+use Rattle.ps_machine.specs.State.{BodyValue}
+use Rattle.ps_machine.specs.Errors.{StepOutcome, Goes, Caught, Lands, Falls, caught, after_caught, failed, pushes}
+use Rattle.ps_machine.specs.Errors.{counted}
+use Rattle.ps_machine.specs.Steps.{after_stack, work_of, after_data, after_gfx, after_flow, after_stop, operate_flow}
+use Rattle.ps_machine.specs.Steps.{operate, call, execute_value, execute, turned}
 use Rattle.ps_laws.proofs.Weight.{budget, Lowers, Idle, Ready, Free, idle_zero, idle, free}
 use Rattle.ps_laws.proofs.Operands.{by_test}
 use Rattle.ps_laws.proofs.StackRows.{FewOfDesk, stack_few}
@@ -48,106 +50,145 @@ catch_more : (n : ℕ) (c : Caught) → CatchFits n c → CatchFits (suc n) c
 catch_more n (Lands operands levels) h = (h.0, omega arith)
 catch_more n (Falls name command) h = tt
 
-catch_fits : (levels : List Level) (name : PsName) (command : List ℕ) (operands : List Obj) → CatchFits (length levels) (caught name command levels operands)
+catch_fits : (levels : List Level) (name : PsName) (command : List ℕ) (operands : List Obj) →
+    CatchFits (length levels) (caught name command levels operands)
 catch_fits [] name command operands = tt
-catch_fits (level ∷ below) name command operands = by_test (CatchFits (suc (length below))) (is_stopped level) _ (caught name command below operands)
-    (λ e. by_test (CatchFits (suc (length below))) (nat_lt (length operands) 500) (Lands (Truth true ∷ operands) below) (caught StackOverflow (codes "stopped") below operands)
+catch_fits (level ∷ below) name command operands =
+    by_test (CatchFits (suc (length below))) (is_stopped level) _ (caught name command below operands)
+    (λ e. by_test (CatchFits (suc (length below))) (nat_lt (length operands) 500) (Lands (Truth true ∷ operands) below)
+    (caught StackOverflow (codes "stopped") below operands)
     (λ f. let l = ltb-true (length operands) 500 f in (omega arith, omega arith))
-    (λ f. catch_more (length below) (caught StackOverflow (codes "stopped") below operands) (catch_fits below StackOverflow (codes "stopped") operands)))
+    (λ f. catch_more (length below) (caught StackOverflow (codes "stopped") below operands)
+    (catch_fits below StackOverflow (codes "stopped") operands)))
     (λ e. catch_more (length below) (caught name command below operands) (catch_fits below name command operands))
 
-lowers_caught : (n : ℕ) (s : State) (c : Caught) → Idle n s → CatchFits (length s.levels) c → Lowers n (after_caught s c)
+lowers_caught : (n : ℕ) (s : BodyValue) (c : Caught) → Idle n s → CatchFits (length s.levels) c →
+    Lowers n (after_caught s c)
 lowers_caught n s (Lands operands levels) h f = ((f.0, omega arith, h.0.2, h.0.3), omega arith)
 lowers_caught n s (Falls name command) h f = tt
 
-pub lowers_failed : (n : ℕ) (name : PsName) (command : List ℕ) (s : State) → Idle n s → Lowers n (failed name command s)
-lowers_failed n name command s h = lowers_caught n s (caught name command s.levels s.operands) h (catch_fits s.levels name command s.operands)
+-- an error leaves fewer steps, where nothing waits
+pub lowers_failed : (n : ℕ) (name : PsName) (command : List ℕ) (s : BodyValue) → Idle n s →
+    Lowers n (failed name command s)
+lowers_failed n name command s h = lowers_caught n s (caught name command s.levels s.operands) h
+    (catch_fits s.levels name command s.operands)
 
 -- where no level is open, an error ends the program
-ends_caught : (n : ℕ) (name : PsName) (command : List ℕ) (s : State) (levels : List Level) → levels ≡ [] → Lowers n (after_caught s (caught name command levels s.operands))
+ends_caught : (n : ℕ) (name : PsName) (command : List ℕ) (s : BodyValue) (levels : List Level) → levels ≡ [] →
+    Lowers n (after_caught s (caught name command levels s.operands))
 ends_caught n name command s [] e = tt
 ends_caught n name command s (level ∷ below) e = absurd cc
 
-pub ends_failed : (n : ℕ) (name : PsName) (command : List ℕ) (s : State) → s.levels ≡ [] → Lowers n (failed name command s)
+-- where no level is open, an error ends the program
+pub ends_failed : (n : ℕ) (name : PsName) (command : List ℕ) (s : BodyValue) → s.levels ≡ [] →
+    Lowers n (failed name command s)
 ends_failed n name command s e = ends_caught n name command s s.levels e
 
-pub lowers_pushes : (n : ℕ) (command : List ℕ) (o : Obj) (s : State) → Idle n s → Lowers n (pushes command o s)
-lowers_pushes n command o s h = by_test (Lowers n) (nat_lt (length s.operands) 500) (Goes (record s { operands = o ∷ s.operands })) (failed StackOverflow command s)
+-- a push leaves fewer steps, where nothing waits
+pub lowers_pushes : (n : ℕ) (command : List ℕ) (o : Obj) (s : BodyValue) → Idle n s → Lowers n (pushes command o s)
+lowers_pushes n command o s h = by_test (Lowers n) (nat_lt (length s.operands) 500)
+    (Goes (record s { operands = o ∷ s.operands })) (failed StackOverflow command s)
     (λ e. let l = ltb-true (length s.operands) 500 e in
     let w = idle_zero s.at_once (suc (length s.operands)) h.1 in
     ((omega arith, h.0.1, h.0.2, h.0.3), omega arith))
     (λ e. lowers_failed n StackOverflow command s h)
 
 -- one object more is counted
-pub lowers_counted : (n : ℕ) (s : State) (go : State → Step) → Free n s → ((t : State) → Ready n t → budget t + (2 + 2 * length t.operands) + length t.levels < n → Lowers n (go t)) → Lowers n (counted s go)
+pub lowers_counted : (n : ℕ) (s : BodyValue) (go : BodyValue → StepOutcome) → Free n s →
+    ((t : BodyValue) → Ready n t → budget t + (2 + 2 * length t.operands) + length t.levels < n → Lowers n (go t)) →
+    Lowers n (counted s go)
 lowers_counted n s go h f = by_test (Lowers n) (nat_lt s.count 100000000) (go (record s { count = s.count + 1 })) _
     (λ e. let l = ltb-true s.count 100000000 e in
-    let room : budget (record s { count = s.count + 1 }) + (2 + 2 * length s.operands) + length s.levels < n = omega arith in
+    let room : budget (record s { count = s.count + 1 }) + (2 + 2 * length s.operands) + length s.levels < n =
+    omega arith in
     f (record s { count = s.count + 1 }) (h.0, h.1, omega arith) room)
     (λ e. tt)
 
-lowers_stack : (n : ℕ) (outcome : Outcome Desk) (command : List ℕ) (s : State) → Idle n s → FewOfDesk outcome → Lowers n (after_stack outcome command s)
-lowers_stack n (GoesOn desk) command s h f = let w = idle_zero s.at_once (length desk.operands) h.1 in ((f, h.0.1, h.0.2, h.0.3), omega arith)
+lowers_stack : (n : ℕ) (outcome : Outcome OperandsAndStore) (command : List ℕ) (s : BodyValue) → Idle n s →
+    FewOfDesk outcome → Lowers n (after_stack outcome command s)
+lowers_stack n (GoesOn desk) command s h f = let w = idle_zero s.at_once (length desk.operands) h.1 in
+    ((f, h.0.1, h.0.2, h.0.3), omega arith)
 lowers_stack n (Refuses name) command s h f = lowers_failed n name command s h
 
-lowers_data : (n : ℕ) (outcome : Outcome Work) (command : List ℕ) (s : State) → Idle n s → DataFits (length s.text.rest) outcome → Lowers n (after_data outcome command s)
-lowers_data n (GoesOn work) command s h f = let w = idle_zero s.at_once (length work.operands) h.1 in ((f.0, h.0.1, f.1, f.2), omega arith)
+lowers_data : (n : ℕ) (outcome : Outcome DataState) (command : List ℕ) (s : BodyValue) → Idle n s →
+    DataFits (length s.text.rest) outcome → Lowers n (after_data outcome command s)
+lowers_data n (GoesOn work) command s h f = let w = idle_zero s.at_once (length work.operands) h.1 in
+    ((f.0, h.0.1, f.1, f.2), omega arith)
 lowers_data n (Refuses name) command s h f = lowers_failed n name command s h
 
-lowers_gfx : (n : ℕ) (outcome : Outcome Scene) (command : List ℕ) (s : State) → Idle n s → FewOfScene outcome → Lowers n (after_gfx outcome command s)
-lowers_gfx n (GoesOn scene) command s h f = let w = idle_zero s.at_once (length scene.operands) h.1 in ((f, h.0.1, h.0.2, h.0.3), omega arith)
+lowers_gfx : (n : ℕ) (outcome : Outcome GraphicsScene) (command : List ℕ) (s : BodyValue) → Idle n s →
+    FewOfScene outcome → Lowers n (after_gfx outcome command s)
+lowers_gfx n (GoesOn scene) command s h f = let w = idle_zero s.at_once (length scene.operands) h.1 in
+    ((f, h.0.1, h.0.2, h.0.3), omega arith)
 lowers_gfx n (Refuses name) command s h f = lowers_failed n name command s h
 
-lowers_flow : (n : ℕ) (outcome : Outcome (Course × Kept)) (command : List ℕ) (s : State) → Ready n s → AllShrinks (length s.operands) (length s.levels) outcome → Lowers n (after_flow outcome command s)
+lowers_flow : (n : ℕ) (outcome : Outcome (OperandsAndLevels × StoreValue)) (command : List ℕ) (s : BodyValue) →
+    Ready n s → AllShrinks (length s.operands) (length s.levels) outcome → Lowers n (after_flow outcome command s)
 lowers_flow n (GoesOn course) command s h f = ((f.0, f.1, h.0.2, h.0.3), omega arith)
 lowers_flow n (Refuses name) command s h f = lowers_failed n name command s (idle n s h)
 
-lowers_stop : (n : ℕ) (outcome : Outcome (Course × Kept)) (command : List ℕ) (s : State) → Idle n s → StopFits (length s.levels) outcome → Lowers n (after_stop outcome command s)
-lowers_stop n (GoesOn course) command s h f = lowers_pushes n (codes "stopped") (Truth true) (record s { operands = course.0.operands; store = course.1; levels = course.0.levels }) ((f.0, omega arith, h.0.2, h.0.3), h.1, omega arith)
+lowers_stop : (n : ℕ) (outcome : Outcome (OperandsAndLevels × StoreValue)) (command : List ℕ) (s : BodyValue) →
+    Idle n s → StopFits (length s.levels) outcome → Lowers n (after_stop outcome command s)
+lowers_stop n (GoesOn course) command s h f =
+    lowers_pushes n (codes "stopped") (Truth true)
+    (record s { operands = course.0.operands; store = course.1; levels = course.0.levels })
+    ((f.0, omega arith, h.0.2, h.0.3), h.1, omega arith)
 lowers_stop n (Refuses name) command s h f = lowers_failed n name command s h
 
-lowers_operate_flow : (n : ℕ) (op : FlowOp) (s : State) → Ready n s → Lowers n (operate_flow op s)
-lowers_operate_flow n OnFlow.Stop s h = lowers_stop n (flow_row OnFlow.Stop s.operands s.levels s.store s.dicts) (codes "stop") s (idle n s h) (stop_fits s.operands s.levels s.store s.dicts h.0.0)
-lowers_operate_flow n op s h = lowers_flow n (flow_row op s.operands s.levels s.store s.dicts) (flow_name_of op) s h (flow_shrinks op s.operands s.levels s.store s.dicts h.0.0 h.0.1)
+lowers_operate_flow : (n : ℕ) (op : FlowOp) (s : BodyValue) → Ready n s → Lowers n (operate_flow op s)
+lowers_operate_flow n OnFlow.Stop s h = lowers_stop n (flow_row OnFlow.Stop s.operands s.levels s.store s.dicts)
+    (codes "stop") s (idle n s h) (stop_fits s.operands s.levels s.store s.dicts h.0.0)
+lowers_operate_flow n op s h = lowers_flow n (flow_row op s.operands s.levels s.store s.dicts) (flow_name_of op) s h
+    (flow_shrinks op s.operands s.levels s.store s.dicts h.0.0 h.0.1)
 
-lowers_operate : (n : ℕ) (op : Oper) (s : State) → Ready n s → Lowers n (operate op s)
+lowers_operate : (n : ℕ) (op : Oper) (s : BodyValue) → Ready n s → Lowers n (operate op s)
 unfolding operate
-lowers_operate n (Stack op) s h = lowers_stack n (stack_row op s.operands s.store) (name_of (Stack op)) s (idle n s h) (stack_few op s.operands s.store h.0.0)
-lowers_operate n (Data op) s h = lowers_data n (data_row op (work_of s)) (name_of (Data op)) s (idle n s h) (data_fits op (work_of s) (h.0.0, h.0.2, h.0.3, omega arith))
+lowers_operate n (Stack op) s h = lowers_stack n (stack_row op s.operands s.store) (name_of (Stack op)) s (idle n s h)
+    (stack_few op s.operands s.store h.0.0)
+lowers_operate n (Data op) s h = lowers_data n (data_row op (work_of s)) (name_of (Data op)) s (idle n s h)
+    (data_fits op (work_of s) (h.0.0, h.0.2, h.0.3, omega arith))
 lowers_operate n (Flow op) s h = lowers_operate_flow n op s h
-lowers_operate n (Gfx op) s h = lowers_gfx n (gfx_row op s.operands s.store s.graphics) (name_of (Gfx op)) s (idle n s h) (gfx_few op s.operands s.store s.graphics h.0.0)
+lowers_operate n (Gfx op) s h = lowers_gfx n (gfx_row op s.operands s.store s.graphics) (name_of (Gfx op)) s
+    (idle n s h) (gfx_few op s.operands s.store s.graphics h.0.0)
 lowers_operate n (Page Quit) s h = tt
 lowers_operate n (Page Showpage) s h = let w = idle_zero s.at_once (length s.operands) h.1 in (h.0, omega arith)
 
-lowers_call : (n : ℕ) (name : List ℕ) (level : Level) (s : State) → Ready n s → Lowers n (call name level s)
-lowers_call n name level s h = by_test (Lowers n) (nat_lt (length s.levels) 250) (Goes (record s { levels = level ∷ s.levels })) (failed ExecStackOverflow name s)
+lowers_call : (n : ℕ) (name : List ℕ) (level : Level) (s : BodyValue) → Ready n s → Lowers n (call name level s)
+lowers_call n name level s h = by_test (Lowers n) (nat_lt (length s.levels) 250)
+    (Goes (record s { levels = level ∷ s.levels })) (failed ExecStackOverflow name s)
     (λ e. let l = ltb-true (length s.levels) 250 e in
     let w = idle_zero s.at_once (length s.operands) h.1 in
     ((h.0.0, omega arith, h.0.2, h.0.3), omega arith))
     (λ e. lowers_failed n ExecStackOverflow name s (idle n s h))
 
-lowers_value : (n : ℕ) (name : List ℕ) (value : Option Obj) (s : State) → Ready n s → Lowers n (execute_value name value s)
+lowers_value : (n : ℕ) (name : List ℕ) (value : Option Obj) (s : BodyValue) → Ready n s →
+    Lowers n (execute_value name value s)
 unfolding execute_value
 lowers_value n name (Some (Array p true)) s h = lowers_call n name (Procedure p) s h
 lowers_value n name (Some (Operator op)) s h = lowers_operate n op s h
-lowers_value n name (Some (Name value true)) s h = lowers_counted n s (λ t. Goes (record t { at_once = Some (Name value true) })) (free n s h)
+lowers_value n name (Some (Name value true)) s h =
+    lowers_counted n s (λ t. Goes (record t { at_once = Some (Name value true) })) (free n s h)
     (λ t r room. (r.0, omega arith))
 lowers_value n name (Some o) s h = lowers_pushes n (codes "push") o s (idle n s h)
 lowers_value n name None s h = lowers_failed n Undefined name s (idle n s h)
 
-pub lowers_execute : (n : ℕ) (o : Obj) (s : State) → Ready n s → Lowers n (execute o s)
+-- an object that is executed leaves fewer steps than were set aside for one
+pub lowers_execute : (n : ℕ) (o : Obj) (s : BodyValue) → Ready n s → Lowers n (execute o s)
 unfolding execute
 lowers_execute n (Name name true) s h = lowers_value n name (find_key s.store s.dicts (Named name)) s h
 lowers_execute n (Operator op) s h = lowers_operate n op s h
 lowers_execute n o s h = lowers_pushes n (codes "push") o s (idle n s h)
 
-length_pushed : (items : Pushes) (operands : List Obj) → length (with_pushes items operands) ≡ length operands + number_of_pushes items
+length_pushed : (items : Pushes) (operands : List Obj) →
+    length (with_pushes items operands) ≡ length operands + number_of_pushes items
 length_pushed Nothing operands = omega arith
 length_pushed (One o) operands = omega arith
 length_pushed (Two key value) operands = omega arith
 
-pub lowers_turned : (n : ℕ) (op : FlowOp) (items : Pushes) (s : State) → Idle n s → Lowers n (turned op items s)
-lowers_turned n op items s h = by_test (Lowers n) (nat_le (length s.operands + number_of_pushes items) 500) (Goes (record s { operands = with_pushes items s.operands })) (failed StackOverflow (flow_name_of op) s)
+-- a turn of a loop leaves fewer steps, where nothing waits
+pub lowers_turned : (n : ℕ) (op : FlowOp) (items : Pushes) (s : BodyValue) → Idle n s → Lowers n (turned op items s)
+lowers_turned n op items s h = by_test (Lowers n) (nat_le (length s.operands + number_of_pushes items) 500)
+    (Goes (record s { operands = with_pushes items s.operands })) (failed StackOverflow (flow_name_of op) s)
     (λ e. let l = leb-true (length s.operands + number_of_pushes items) 500 e in
     let p = length_pushed items s.operands in
     let w = idle_zero s.at_once (length (with_pushes items s.operands)) h.1 in

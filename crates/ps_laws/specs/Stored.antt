@@ -8,30 +8,32 @@ use Rattle.ps_store.specs.declared.store.Composite.{Composite}
 use Rattle.ps_store.specs.declared.store.Composite.TheVariants.{Text as TextOf, Array as ArrayOf, Dict as DictOf}
 use Rattle.ps_flow.specs.declared.level.Level.{Level}
 use Rattle.ps_flow.specs.declared.level.Level.TheVariants.{Procedure, Stopped, Loop, Repeat, For, Forall, ForallEntries}
-use Rattle.ps_machine.specs.State.{State}
-use Rattle.ps_machine.specs.Errors.{Step, Goes, Shows, Ends}
+use Rattle.ps_machine.specs.State.{BodyValue}
+use Rattle.ps_machine.specs.Errors.{StepOutcome, Goes, Shows, Ends}
 
--- P holds of each element
+-- something holds of each element of a list
 abbrev pub Each : {X : Type 0} → (X → Type 0) → List X → Type 0
 Each P [] = Unit {0}
 Each P (x ∷ xs) = P x × Each P xs
 
+-- the number of an object's composite, if it has one, is below m, whatever that composite is
 abbrev pub IsOf : ℕ → Obj → Type 0
 IsOf m (Text p) = p.id < m
 IsOf m (Array p x) = p.id < m
 IsOf m (Dict d) = d < m
 IsOf m o = Unit {0}
 
+-- the same of both objects of an entry
 abbrev pub IsPairOf : ℕ → Obj × Obj → Type 0
 IsPairOf m pair = IsOf m pair.0 × IsOf m pair.1
 
--- what a composite holds is of the store too
+-- the numbers in an array's elements and a dictionary's values are of the store too
 abbrev pub HoldsOf : ℕ → Composite → Type 0
 HoldsOf m (TextOf bytes) = Unit {0}
 HoldsOf m (ArrayOf items) = Each (IsOf m) items
 HoldsOf m (DictOf entries) = Each (λ e. IsOf m e.1) entries
 
--- what a level runs and what it is to push
+-- the same of what a level runs and what it is to push
 abbrev pub IsLevelOf : ℕ → Level → Type 0
 IsLevelOf m (Procedure rest) = rest.id < m
 IsLevelOf m (Stopped rest) = rest.id < m
@@ -41,12 +43,14 @@ IsLevelOf m (For next limit body rest) = (body.id < m) × (rest.id < m)
 IsLevelOf m (Forall left body rest) = Each (IsOf m) left × (body.id < m) × (rest.id < m)
 IsLevelOf m (ForallEntries left body rest) = Each (IsPairOf m) left × (body.id < m) × (rest.id < m)
 
+-- the same of an object to be executed at once, if there is one
 abbrev pub IsWaitingOf : ℕ → Option Obj → Type 0
 IsWaitingOf m (Some o) = IsOf m o
 IsWaitingOf m None = Unit {0}
 
--- all that a state holds is of its store, which has two composites at least
-pub record IsStored (s : State) : Type 0 where
+-- all that a state holds is of its store, which has two composites at least, so that systemdict and userdict are among
+-- them
+pub record IsStored (s : BodyValue) : Type 0 where
   pub standard : 2 ≤ length s.store.made
   pub composites : Each (HoldsOf (length s.store.made)) s.store.made
   pub operands : Each (IsOf (length s.store.made)) s.operands
@@ -55,8 +59,8 @@ pub record IsStored (s : State) : Type 0 where
   pub at_once : IsWaitingOf (length s.store.made) s.at_once
   pub unclosed : Each (Each (IsOf (length s.store.made))) s.unclosed
 
--- what a step leaves, where the program goes on
-abbrev pub KeepsStored : Step → Type 0
+-- all that a state after a step holds is of its store, where the program goes on
+abbrev pub KeepsStored : StepOutcome → Type 0
 KeepsStored (Goes s) = IsStored s
 KeepsStored (Shows page s) = IsStored s
 KeepsStored (Ends end) = Unit {0}

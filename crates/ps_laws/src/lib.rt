@@ -3,7 +3,8 @@
 //!
 //! Each function of `laws.rt` is a statement, and does nothing. `specs/Limits.antt` has the limits of the
 //! stacks, `specs/Stored.antt` what it is that all a state holds is of its store, `specs/Reached.antt` the states
-//! that a program comes to, and `specs/Ending.antt` what it is that a program ends by a step of its own. The proofs go by the rows of the operators, a file for each kind, and by
+//! that a program comes to, and `specs/Ending.antt` what it is that a program ends by a step of its own. The proofs go
+//! by the rows of the operators, a file for each kind, and by
 //! a measure of the steps that are left (`proofs/Weight.antt`).
 #![tactic(auto)]
 

@@ -1,13 +1,13 @@
 -- One step of a run, and a name that leads to an operator.
 use Rattle.std.proofs.Common.{◌≡◌, ℕ, zero, suc, ◌-◌, ◌<◌, List, Some, true, arith, refl, sym}
-use Rattle.page_model.specs.Page.{Sheet}
+use Rattle.page_model.specs.Page.{PageValue}
 use Rattle.ps_store.specs.declared.obj.Obj.{Obj}
 use Rattle.ps_store.specs.declared.obj.Obj.TheVariants.{Name, Oper as Operator}
 use Rattle.ps_store.specs.declared.oper.Oper.{Oper}
 use Rattle.ps_store.specs.declared.key.Key.TheVariants.{Named}
 use Rattle.ps_store.specs.Dicts.{find_key}
 use Rattle.gfx_state.specs.Graphics.{page_of}
-use Rattle.ps_machine.specs.State.{State}
+use Rattle.ps_machine.specs.State.{BodyValue}
 use Rattle.ps_machine.specs.Errors.{Shows}
 use Rattle.ps_machine.specs.Steps.{execute, execute_value, operate, shown}
 use Rattle.ps_machine.specs.Reading.{step}
@@ -15,17 +15,21 @@ use Rattle.ps_machine.specs.Memory.{takes_memory, object_takes_memory}
 use Rattle.ps_machine.specs.Meaning.{Meaning, after_page, run}
 
 -- a step that shows a page: the page comes, and then what the rest means
-pub a_page_comes : (n : ℕ) (s t now : State) (page : Sheet) (whole : Meaning) → 0 < n → run n s ≡ whole → step s ≡ Shows (page_of t.graphics) (shown t) → page ≡ page_of t.graphics → now ≡ shown t → whole ≡ after_page page (run (n - 1) now)
+pub a_page_comes : (n : ℕ) (s t now : BodyValue) (page : PageValue) (whole : Meaning) → 0 < n → run n s ≡ whole →
+    step s ≡ Shows (page_of t.graphics) (shown t) → page ≡ page_of t.graphics → now ≡ shown t →
+    whole ≡ after_page page (run (n - 1) now)
 unfolding run
 a_page_comes zero s t now page whole h w e p r = absurd (omega (arith, h))
 a_page_comes (suc n) s t now page whole h w e p r =
     let k : suc n - 1 ≡ n = omega arith in rw (sym w, e, p, r, k) refl
 
 -- an executable name whose value is an operator does that operator's row
-pub executed : (o : Obj) (name : List ℕ) (op : Oper) (s : State) → o ≡ Name name true → find_key s.store s.dicts (Named name) ≡ Some (Operator op) → execute o s ≡ operate op s
+pub executed : (o : Obj) (name : List ℕ) (op : Oper) (s : BodyValue) → o ≡ Name name true →
+    find_key s.store s.dicts (Named name) ≡ Some (Operator op) → execute o s ≡ operate op s
 unfolding execute execute_value
 executed o name op s e f = rw (e, f) refl
 
 -- and takes memory where that operator does
-pub executed_memory : (o : Obj) (name : List ℕ) (op : Oper) (s : State) → o ≡ Name name true → find_key s.store s.dicts (Named name) ≡ Some (Operator op) → object_takes_memory o s ≡ takes_memory op
+pub executed_memory : (o : Obj) (name : List ℕ) (op : Oper) (s : BodyValue) → o ≡ Name name true →
+    find_key s.store s.dicts (Named name) ≡ Some (Operator op) → object_takes_memory o s ≡ takes_memory op
 executed_memory o name op s e f = rw (e, f) refl

@@ -1,10 +1,10 @@
 pub mod Nested
+pub mod Setup
 pub mod State
 pub mod Opening
-pub mod Filling
 pub mod Errors
-pub mod Landing
 pub mod Steps
 pub mod Reading
 pub mod Memory
 pub mod Meaning
+pub mod Code

@@ -3,7 +3,7 @@
 use Rattle.std.specs.Prelude.{◌≡◌, List, [], ◌∷◌, ◌++◌, Option, Some, None, reverse, length, nat_lt, if◌then◌else◌}
 use Rattle.ps_store.specs.declared.obj.Obj.{Obj}
 
--- the innermost one, and those around it, the outermost first
+-- the procedures that aren't closed yet, the innermost first
 abbrev pub nested : Option (List Obj) → List (List Obj) → List (List Obj)
 nested None outer = []
 nested (Some innermost) outer = innermost ∷ reverse outer

@@ -12,12 +12,13 @@ ghost use Rattle.ps_flow.specs.Levels.{told};
 ghost use Rattle.ps_flow.specs.Rows.{flow_row};
 ghost use Rattle.ps_gfx_ops.specs.Rows.{gfx_row, row_before_memory};
 ghost use Rattle.ps_machine.specs.Memory.{takes_memory, value_takes_memory, object_takes_memory};
-ghost use Rattle.ps_machine.specs.State.{State as Snapshot, opening};
+ghost use Rattle.ps_machine.specs.State.{BodyValue as Snapshot, opening};
 ghost use Rattle.ps_machine.specs.Errors.{failed, caught, pushes, counted, Ends};
-ghost use Rattle.ps_machine.specs.Steps.{execute, execute_value, operate, operate_flow, after_stack, after_data, work_of, after_gfx, after_flow, after_stop, call, turned, shown};
+ghost use Rattle.ps_machine.specs.Steps.{execute, execute_value, operate, operate_flow, after_stack, after_data};
+ghost use Rattle.ps_machine.specs.Steps.{work_of, after_gfx, after_flow, after_stop, call, turned, shown};
 ghost use Rattle.ps_machine.specs.Reading.{step, go_on};
 ghost use Rattle.ps_machine.specs.Meaning.{step_of};
-ghost use Rattle.ps_machine.specs.Landing.{IsCaught};
+ghost use Rattle.ps_machine.specs.Code.Landing.{IsCaught};
 ghost use Rattle.gfx_state.specs.Graphics.{page_of};
 
 use crate::errors::{catch, command_of, named, timeout};
@@ -33,7 +34,7 @@ use ps_gfx_ops::run_gfx;
 use ps_scan::Scanner;
 use ps_stack_ops::run_stack;
 use ps_store::{
-    DataOp, Dicts, FlowOp, GfxOp, Obj, OpFault, Oper, PageOp, Span, Stack, StackOp, Store,
+    DataOp, Dicts, FlowOp, GfxOp, Obj, OpFault, Oper, PageOp, Part, Stack, StackOp, Store,
 };
 use std::alloc::Global;
 use std::marker::Model;
@@ -58,9 +59,9 @@ pub(crate) struct Body {
 
 impl Model for Body {
     ghost use Rattle.std.specs.Prelude.{◌≤◌};
-    ghost use Rattle.ps_machine.specs.State.{State};
+    ghost use Rattle.ps_machine.specs.State.{BodyValue};
 
-    ghost Value = { State };
+    ghost Value = { BodyValue };
 
     ghost view = { λ b. record {
       operands = b.stack;
@@ -166,7 +167,7 @@ impl Body {
 
     /// Executes what stands at a place of the store.
     #[tactic(auto, unfolding(crate::specs::Steps::execute))]
-    fn execute_at(&mut self, end: &mut End, place: Span) -> Mem<Turn>
+    fn execute_at(&mut self, end: &mut End, place: Part) -> Mem<Turn>
         ensures memory { OnErr result (object_takes_memory (element self.old.store place 0) self.old ≡ true) }
         ensures done { IfOk result
             (λ turn. execute (element self.old.store place 0) self.old ≡ step_of turn self.new end.new) }
@@ -193,7 +194,7 @@ impl Body {
 
     /// Executes a copy of what stands at a place of the store.
     #[inline(never)]
-    fn execute_copy(&mut self, end: &mut End, place: Span) -> Mem<Turn>
+    fn execute_copy(&mut self, end: &mut End, place: Part) -> Mem<Turn>
         ensures memory { OnErr result (object_takes_memory (element self.old.store place 0) self.old ≡ true) }
         ensures done { IfOk result
             (λ turn. execute (element self.old.store place 0) self.old ≡ step_of turn self.new end.new) }
@@ -203,7 +204,7 @@ impl Body {
     }
 
     /// Does the operator that a name at a place of the store leads to.
-    fn operate_named(&mut self, end: &mut End, place: Span, op: Oper) -> Mem<Turn>
+    fn operate_named(&mut self, end: &mut End, place: Part, op: Oper) -> Mem<Turn>
         requires row { execute (element self.old.store place 0) self.old ≡ operate op self.old }
         requires memory { object_takes_memory (element self.old.store place 0) self.old ≡ takes_memory op }
         ensures memory { OnErr result (object_takes_memory (element self.old.store place 0) self.old ≡ true) }
@@ -234,9 +235,11 @@ impl Body {
     }
 
     fn execute_name(&mut self, end: &mut End, name: &Name) -> Mem<Turn>
-        ensures memory { OnErr result (value_takes_memory (find_key self.old.store self.old.dicts (Named name.now)) ≡ true) }
+        ensures memory { OnErr result (value_takes_memory (find_key self.old.store self.old.dicts (Named name.now))
+            ≡ true) }
         ensures value { IfOk result (λ turn.
-            execute_value name.now (find_key self.old.store self.old.dicts (Named name.now)) self.old ≡ step_of turn self.new end.new) }
+            execute_value name.now (find_key self.old.store self.old.dicts (Named name.now)) self.old
+            ≡ step_of turn self.new end.new) }
     {
         let found = self.dicts.find_name(&self.store, name).copied();
         self.execute_value(end, name, found)
@@ -266,7 +269,7 @@ impl Body {
     }
 
     /// A procedure found by a name runs.
-    fn call(&mut self, end: &mut End, name: &Name, p: Span) -> Turn
+    fn call(&mut self, end: &mut End, name: &Name, p: Part) -> Turn
         ensures { call name.now (Level.Procedure p) self.old ≡ step_of result self.new end.new }
     {
         match self.flow.call(p) {
@@ -316,7 +319,8 @@ impl Body {
         ensures row { IfOk result (λ turn.
             after_data (data_row op (work_of self.old)) (name_of (Oper.Data op)) self.old ≡
             step_of turn self.new end.new) }
-        ensures refused { (name : PsName) → op ≢ DataOp.CloseDict → data_row op (work_of self.old) ≡ Refuses name → IsOk result }
+        ensures refused { (name : PsName) → op ≢ DataOp.CloseDict → data_row op (work_of self.old) ≡ Refuses name →
+            IsOk result }
         ensures memory { OnErr result (takes_memory (Oper.Data op) ≡ true) }
     {
         match run_data(
@@ -370,7 +374,8 @@ impl Body {
     #[tactic(auto, unfolding(crate::specs::Memory::takes_memory))]
     fn control(&mut self, end: &mut End, op: FlowOp) -> Mem<Turn>
         ensures row { IfOk result (λ turn.
-            after_flow (flow_row op self.old.operands self.old.levels self.old.store self.old.dicts) (flow_name_of op) self.old ≡
+            after_flow (flow_row op self.old.operands self.old.levels self.old.store self.old.dicts)
+            (flow_name_of op) self.old ≡
             step_of turn self.new end.new) }
         ensures refused { (name : PsName) →
             flow_row op self.old.operands self.old.levels self.old.store self.old.dicts ≡ Refuses name → IsOk result }

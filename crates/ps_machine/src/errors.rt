@@ -2,7 +2,7 @@
 ghost use Rattle.std.specs.Prelude.{◌≡◌, ◌≤◌, length, codes};
 ghost use Rattle.ps_store.specs.Operators.{name_of};
 ghost use Rattle.ps_machine.specs.Errors.{caught};
-ghost use Rattle.ps_machine.specs.Landing.{IsCaught};
+ghost use Rattle.ps_machine.specs.Code.Landing.{IsCaught};
 
 use crate::turn::{End, Turn};
 use press_fault::{Name, PsName};

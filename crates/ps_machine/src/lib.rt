@@ -12,8 +12,6 @@ mod reading;
 mod setup;
 mod turn;
 mod unclosed;
-#[cfg(test)]
-mod worked;
 
 pub use machine::Machine;
 pub use setup::Setup;

@@ -1,7 +1,7 @@
 //! The state at the start of a program.
 ghost use Rattle.std.specs.Prelude.{◌≡◌, OnOk, IfOk};
 ghost use Rattle.ps_machine.specs.Opening.{opening_store};
-ghost use Rattle.ps_machine.specs.Filling.{two_empty, with_operator};
+ghost use Rattle.ps_machine.specs.Code.Filling.{two_empty, with_operator};
 ghost use Rattle.ps_machine.specs.State.{opening};
 
 use crate::body::Body;

@@ -3,7 +3,7 @@ ghost use Rattle.std.specs.Prelude.{◌≡◌, ◌≤◌, IfOk, length, codes, S
 ghost use Rattle.ps_store.specs.Store.{with_text_of, with_array_of};
 ghost use Rattle.ps_store.specs.declared.key.Key.TheVariants.{Named};
 ghost use Rattle.ps_store.specs.Dicts.{find_key};
-ghost use Rattle.ps_machine.specs.State.{State as Snapshot};
+ghost use Rattle.ps_machine.specs.State.{BodyValue as Snapshot};
 ghost use Rattle.ps_machine.specs.Errors.{counted};
 ghost use Rattle.ps_machine.specs.Steps.{execute};
 ghost use Rattle.ps_machine.specs.Reading.{read, read_token, met, met_string, met_procedure, met_value, closed, unmade};
@@ -13,8 +13,8 @@ use crate::body::{Body, OBJECTS};
 use crate::errors::{named, timeout};
 use crate::turn::{End, Turn};
 use press_fault::{Grow, Mem, Name, NoMemory, PsName};
-use ps_scan::{Bytes, ScanFault, Token};
-use ps_store::{Obj, Span};
+use ps_scan::{ScanFault, Token, TokenBytes};
+use ps_store::{Obj, Part};
 
 impl Body {
     /// Reads the next token of the text.
@@ -73,7 +73,8 @@ impl Body {
     /// A name that is looked up at once.
     fn meet_value(&mut self, end: &mut End, name: &Name) -> Mem<Turn>
         ensures { IfOk result (λ turn.
-            met_value name.now (find_key self.old.store self.old.dicts (Named name.now)) self.old ≡ step_of turn self.new end.new) }
+            met_value name.now (find_key self.old.store self.old.dicts (Named name.now)) self.old
+            ≡ step_of turn self.new end.new) }
     {
         match self.dicts.find_name(&self.store, name).copied() {
             Some(o) => self.meet(end, &o),
@@ -82,7 +83,7 @@ impl Body {
     }
 
     /// A string of the text.
-    fn meet_string(&mut self, end: &mut End, bytes: &Bytes) -> Mem<Turn>
+    fn meet_string(&mut self, end: &mut End, bytes: &TokenBytes) -> Mem<Turn>
         ensures { IfOk result
             (λ turn. met_string (with_text_of self.old.store bytes.now) self.old ≡
             step_of turn self.new end.new) }

@@ -12,10 +12,10 @@ pub struct Setup {
 }
 
 impl Model for Setup {
-    ghost use Rattle.gfx_state.specs.Graphics.{PageSize};
+    ghost use Rattle.ps_machine.specs.Setup.{SetupValue};
     ghost use Rattle.gfx_state.specs.Keeping.{IsPageSize};
 
-    ghost Value = { PageSize };
+    ghost Value = { SetupValue };
 
     ghost view = { λ s. record { width = s.width; height = s.height; res = s.res } };
 

@@ -1,21 +1,26 @@
 -- The forms of numbers against the functions that find them.
-use Rattle.std.proofs.Common.{◌≡◌, ℕ, ◌+◌, ◌<◌, Bool, true, false, ◌&&◌, ◌⊎◌, inl, inr, List, [], ◌∷◌, ◌++◌, length, drop, arith, ap, sym, refl, ◌∙◌, subst, Option, Some, None}
+use Rattle.std.proofs.Common.{◌≡◌, ℕ, ◌+◌, ◌<◌, Bool, true, false, ◌&&◌, ◌⊎◌, inl, inr, List, [], ◌∷◌, ◌++◌, length}
+use Rattle.std.proofs.Common.{drop, arith, ap, sym, refl, ◌∙◌, subst, Option, Some, None}
 use Rattle.std.specs.Prelude.{◌==◌, ◌||◌, nat_lt, nat_le}
 use Rattle.std.specs.List.{list_all, prefix_len}
 use Rattle.std.proofs.lemmas.Bool.{false≢true, eqb-true, leb-true, le-leb}
 use Rattle.std.proofs.lemmas.List.{take-append-drop, length-append}
-use Rattle.ps_scan.specs.Characters.{is_digit, begins, IsRun}
+use Rattle.ps_scan.specs.Characters.{is_digit, begins, IsRegularRun}
 use Rattle.ps_scan.specs.Integers.{Sign, IsInteger, are_digits, decimal_value, integer_numeral}
 use Rattle.ps_scan.specs.Integers.Sign.{NoSign, Plus, Minus}
-use Rattle.ps_scan.specs.Reals.{Parts, Point, Power, IsReal, is_power_mark, real_numeral}
-use Rattle.ps_scan.specs.Reals.Point.{NoPoint, APoint}
-use Rattle.ps_scan.specs.Reals.Power.{NoPower, APower}
+use Rattle.ps_scan.specs.Reals.{RealParts, DecimalPoint, Exponent, IsReal, is_power_mark, real_numeral}
+use Rattle.ps_scan.specs.Reals.DecimalPoint.{NoPoint, APoint}
+use Rattle.ps_scan.specs.Reals.Exponent.{NoPower, APower}
 use Rattle.ps_scan.specs.Radix.{IsRadix, is_base, are_digits_below, radix_value, radix_numeral}
 use Rattle.ps_scan.specs.Numerals.{IsNumeral}
 use Rattle.ps_scan.specs.Numerals.IsNumeral.{Integer, Real, Radix}
-use Rattle.ps_scan.specs.NumeralReading.{is_sign, unsigned, is_minus, is_integer, digits_in, behind_digits, is_radix_behind, is_radix, base_of, radix_digits, fraction_of, behind_fraction, is_power, power_digits, power_minus, parts_of, is_real, numeral_of}
+use Rattle.ps_scan.specs.NumeralReading.{is_sign, unsigned, is_minus, is_integer, digits_in, behind_digits}
+use Rattle.ps_scan.specs.NumeralReading.{is_radix_behind, is_radix, base_of, radix_digits, fraction_of, behind_fraction}
+use Rattle.ps_scan.specs.NumeralReading.{is_power, power_digits, power_minus, parts_of, is_real, numeral_of}
 use Rattle.ps_scan.specs.declared.numerals.Numeral.{Numeral}
-use Rattle.ps_scan.proofs.Runs.{by_bool, and_first, and_second, run_is_take, run_is_drop, passes_front}
+use Rattle.proof_words.proofs.Tests.{and_first, and_second}
+use Rattle.proof_words.proofs.Cases.{by_bool}
+use Rattle.ps_scan.proofs.Runs.{run_is_take, run_is_drop, passes_front}
 
 either_false : (a b : Bool) → (a || b) ≡ false → (a ≡ false) × (b ≡ false)
 either_false true b h = absurd (false≢true (sym h))
@@ -32,7 +37,8 @@ digit_no_sign c h = by_bool (c == 43)
     (λ f. absurd (false≢true (subst (λ (d : ℕ). is_digit d ≡ true) (eqb-true c 45 f) h)))
     (λ f. rw (e, f) refl))
 
-digits_begin : (digits tail : List ℕ) → list_all is_digit digits ≡ true → begins is_sign tail ≡ false → begins is_sign (digits ++ tail) ≡ false
+digits_begin : (digits tail : List ℕ) → list_all is_digit digits ≡ true → begins is_sign tail ≡ false →
+    begins is_sign (digits ++ tail) ≡ false
 digits_begin [] tail h t = t
 digits_begin (c ∷ cs) tail h t = digit_no_sign c (and_first (is_digit c) (list_all is_digit cs) h)
 
@@ -48,13 +54,15 @@ not_digits : (front : List ℕ) (c : ℕ) (cs : List ℕ) → is_digit c ≡ fal
 not_digits front c cs h = rw (not_all is_digit front c cs h) (and_false (nat_lt 0 (length (front ++ (c ∷ cs)))))
 
 -- a sign taken off
-unsigned_of : (sign body : List ℕ) (negative : Bool) → Sign sign negative → begins is_sign body ≡ false → unsigned (sign ++ body) ≡ body
+unsigned_of : (sign body : List ℕ) (negative : Bool) → Sign sign negative → begins is_sign body ≡ false →
+    unsigned (sign ++ body) ≡ body
 unsigned_of _ [] _ NoSign h = refl
 unsigned_of _ (c ∷ cs) _ NoSign h = rw h refl
 unsigned_of _ body _ Plus h = refl
 unsigned_of _ body _ Minus h = refl
 
-is_minus_of : (sign body : List ℕ) (negative : Bool) → Sign sign negative → begins is_sign body ≡ false → is_minus (sign ++ body) ≡ negative
+is_minus_of : (sign body : List ℕ) (negative : Bool) → Sign sign negative → begins is_sign body ≡ false →
+    is_minus (sign ++ body) ≡ negative
 is_minus_of _ [] _ NoSign h = refl
 is_minus_of _ (c ∷ cs) _ NoSign h = (either_false (c == 43) (c == 45) h).1
 is_minus_of _ body _ Plus h = refl
@@ -66,17 +74,24 @@ digits_all : (digits : List ℕ) → are_digits digits ≡ true → list_all is_
 digits_all digits h = and_second (nat_lt 0 (length digits)) (list_all is_digit digits) h
 
 integer_unsigned : (run digits : List ℕ) (negative : Bool) → IsInteger run negative digits → unsigned run ≡ digits
-integer_unsigned run digits negative i = ap unsigned i.joined ∙ unsigned_of i.sign digits negative i.sign_is (all_begin digits (digits_all digits i.digits_are))
+integer_unsigned run digits negative i = ap unsigned i.joined
+    ∙ unsigned_of i.sign digits negative i.sign_is (all_begin digits (digits_all digits i.digits_are))
 
 integer_minus : (run digits : List ℕ) (negative : Bool) → IsInteger run negative digits → is_minus run ≡ negative
-integer_minus run digits negative i = ap is_minus i.joined ∙ is_minus_of i.sign digits negative i.sign_is (all_begin digits (digits_all digits i.digits_are))
+integer_minus run digits negative i = ap is_minus i.joined
+    ∙ is_minus_of i.sign digits negative i.sign_is (all_begin digits (digits_all digits i.digits_are))
 
 integer_is : (run digits : List ℕ) (negative : Bool) → IsInteger run negative digits → is_integer run ≡ true
 integer_is run digits negative i = ap are_digits (integer_unsigned run digits negative i) ∙ i.digits_are
 
-integer_only : (run digits : List ℕ) (negative : Bool) → IsInteger run negative digits → numeral_of run ≡ Some (integer_numeral negative (decimal_value digits))
+integer_only : (run digits : List ℕ) (negative : Bool) → IsInteger run negative digits →
+    numeral_of run ≡ Some (integer_numeral negative (decimal_value digits))
 unfolding numeral_of
-integer_only run digits negative i = rw (integer_is run digits negative i, integer_minus run digits negative i, integer_unsigned run digits negative i) refl
+integer_only run digits negative i = rw (
+  integer_is run digits negative i,
+  integer_minus run digits negative i,
+  integer_unsigned run digits negative i,
+) refl
 
 -- Radix numbers
 
@@ -87,9 +102,11 @@ base_digits front h =
     let digits = list_all is_digit front in
     let low = nat_le 2 (decimal_value front) in
     let high = nat_le (decimal_value front) 36 in
-    and_second (some && few) digits (and_first (some && few && digits) low (and_first (some && few && digits && low) high h))
+    and_second (some && few) digits (and_first (some && few && digits) low
+    (and_first (some && few && digits && low) high h))
 
-radix_run : (run digits : List ℕ) (base : ℕ) (r : IsRadix run base digits) → IsRun is_digit run r.front (35 ∷ digits)
+radix_run : (run digits : List ℕ) (base : ℕ) (r : IsRadix run base digits) →
+    IsRegularRun is_digit run r.front (35 ∷ digits)
 radix_run run digits base r = record { joined = r.joined; passes = base_digits r.front r.base_is; stops = refl }
 
 radix_front : (run digits : List ℕ) (base : ℕ) (r : IsRadix run base digits) → digits_in run ≡ r.front
@@ -98,28 +115,37 @@ radix_front run digits base r = run_is_take is_digit run r.front (35 ∷ digits)
 radix_behind : (run digits : List ℕ) (base : ℕ) (r : IsRadix run base digits) → behind_digits run ≡ 35 ∷ digits
 radix_behind run digits base r = run_is_drop is_digit run r.front (35 ∷ digits) (radix_run run digits base r)
 
-radix_digits_are : (run digits : List ℕ) (base : ℕ) (r : IsRadix run base digits) → are_digits_below (decimal_value r.front) digits ≡ true
+radix_digits_are : (run digits : List ℕ) (base : ℕ) (r : IsRadix run base digits) →
+    are_digits_below (decimal_value r.front) digits ≡ true
 radix_digits_are run digits base r = ap (λ b. are_digits_below b digits) (sym r.value) ∙ r.digits_are
 
 radix_is : (run digits : List ℕ) (base : ℕ) → IsRadix run base digits → is_radix run ≡ true
 radix_is run digits base r =
     ap (λ front. is_radix_behind front (behind_digits run)) (radix_front run digits base r)
-    ∙ (ap (is_radix_behind r.front) (radix_behind run digits base r) ∙ rw (r.base_is, radix_digits_are run digits base r) refl)
+    ∙ (ap (is_radix_behind r.front) (radix_behind run digits base r)
+    ∙ rw (r.base_is, radix_digits_are run digits base r) refl)
 
 radix_no_integer : (run digits : List ℕ) (base : ℕ) → IsRadix run base digits → is_integer run ≡ false
 radix_no_integer run digits base r =
     ap is_integer r.joined
-    ∙ (ap are_digits (unsigned_of [] (r.front ++ (35 ∷ digits)) false NoSign (digits_begin r.front (35 ∷ digits) (base_digits r.front r.base_is) refl))
+    ∙ (ap are_digits (unsigned_of [] (r.front ++ (35 ∷ digits)) false NoSign
+    (digits_begin r.front (35 ∷ digits) (base_digits r.front r.base_is) refl))
     ∙ not_digits r.front 35 digits refl)
 
-radix_value_is : (run digits : List ℕ) (base : ℕ) → IsRadix run base digits → radix_value (base_of run) (radix_digits run) ≡ radix_value base digits
+radix_value_is : (run digits : List ℕ) (base : ℕ) → IsRadix run base digits →
+    radix_value (base_of run) (radix_digits run) ≡ radix_value base digits
 radix_value_is run digits base r =
     ap (λ b. radix_value b (radix_digits run)) (ap decimal_value (radix_front run digits base r) ∙ sym r.value)
     ∙ ap (λ t. radix_value base (drop 1 t)) (radix_behind run digits base r)
 
-radix_only : (run digits : List ℕ) (base : ℕ) → IsRadix run base digits → numeral_of run ≡ Some (radix_numeral (radix_value base digits))
+radix_only : (run digits : List ℕ) (base : ℕ) → IsRadix run base digits →
+    numeral_of run ≡ Some (radix_numeral (radix_value base digits))
 unfolding numeral_of
-radix_only run digits base r = rw (radix_no_integer run digits base r, radix_is run digits base r, radix_value_is run digits base r) refl
+radix_only run digits base r = rw (
+  radix_no_integer run digits base r,
+  radix_is run digits base r,
+  radix_value_is run digits base r,
+) refl
 
 -- Reals
 
@@ -138,8 +164,10 @@ record Stop (tail : List ℕ) : Type 0 where
   no_sign : is_sign head ≡ false
   no_hash : (head == 35) ≡ false
 
-stop_of : (point exponent fraction power : List ℕ) (minus : Bool) → Point point fraction → Power exponent minus power → 0 < length point + length exponent → Stop (point ++ exponent)
-stop_of _ exponent _ power minus (APoint fraction f) q h = record { head = 46; rest = fraction ++ exponent; is = refl; no_digit = refl; no_sign = refl; no_hash = refl }
+stop_of : (point exponent fraction power : List ℕ) (minus : Bool) → DecimalPoint point fraction →
+    Exponent exponent minus power → 0 < length point + length exponent → Stop (point ++ exponent)
+stop_of _ exponent _ power minus (APoint fraction f) q h =
+    record { head = 46; rest = fraction ++ exponent; is = refl; no_digit = refl; no_sign = refl; no_hash = refl }
 stop_of _ _ _ _ _ NoPoint NoPower h = absurd (omega (arith, h))
 stop_of _ _ _ _ _ NoPoint (APower mark sign digits minus m s d) h = record {
   head = mark;
@@ -150,81 +178,125 @@ stop_of _ _ _ _ _ NoPoint (APower mark sign digits minus m s d) h = record {
   no_hash = mark_is (λ c. (c == 35) ≡ false) mark m refl refl;
 }
 
-power_stops : (exponent power : List ℕ) (minus : Bool) → Power exponent minus power → begins is_digit exponent ≡ false
+power_stops : (exponent power : List ℕ) (minus : Bool) → Exponent exponent minus power →
+    begins is_digit exponent ≡ false
 power_stops _ _ _ NoPower = refl
 power_stops _ _ _ (APower mark sign digits minus m s d) = mark_is (λ c. is_digit c ≡ false) mark m refl refl
 
-point_reads : (point exponent fraction power : List ℕ) (minus : Bool) → Point point fraction → Power exponent minus power → (fraction_of (point ++ exponent) ≡ fraction) × (behind_fraction (point ++ exponent) ≡ exponent)
+point_reads : (point exponent fraction power : List ℕ) (minus : Bool) → DecimalPoint point fraction →
+    Exponent exponent minus power → (fraction_of (point ++ exponent) ≡ fraction) ×
+    (behind_fraction (point ++ exponent) ≡ exponent)
 point_reads _ exponent _ power minus (APoint fraction f) q =
-    let r : IsRun is_digit (fraction ++ exponent) fraction exponent = record { joined = refl; passes = f; stops = power_stops exponent power minus q } in
-    (run_is_take is_digit (fraction ++ exponent) fraction exponent r, run_is_drop is_digit (fraction ++ exponent) fraction exponent r)
+    let r : IsRegularRun is_digit (fraction ++ exponent) fraction exponent =
+    record { joined = refl; passes = f; stops = power_stops exponent power minus q } in (
+      run_is_take is_digit (fraction ++ exponent) fraction exponent r,
+      run_is_drop is_digit (fraction ++ exponent) fraction exponent r,
+    )
 point_reads _ _ _ _ _ NoPoint NoPower = (refl, refl)
 point_reads _ _ _ _ _ NoPoint (APower mark sign digits minus m s d) =
-    mark_is (λ c. (fraction_of (c ∷ (sign ++ digits)) ≡ []) × (behind_fraction (c ∷ (sign ++ digits)) ≡ c ∷ (sign ++ digits))) mark m (refl, refl) (refl, refl)
+    mark_is (λ c. (fraction_of (c ∷ (sign ++ digits)) ≡ []) ×
+    (behind_fraction (c ∷ (sign ++ digits)) ≡ c ∷ (sign ++ digits))) mark m (refl, refl) (refl, refl)
 
-power_reads : (exponent power : List ℕ) (minus : Bool) → Power exponent minus power → (is_power exponent ≡ true) × (power_digits exponent ≡ power) × (power_minus exponent ≡ minus)
+power_reads : (exponent power : List ℕ) (minus : Bool) → Exponent exponent minus power → (is_power exponent ≡ true) ×
+    (power_digits exponent ≡ power) × (power_minus exponent ≡ minus)
 power_reads _ _ _ NoPower = (refl, refl, refl)
 power_reads _ _ _ (APower mark sign digits minus m s d) =
     let b = all_begin digits (digits_all digits d) in
     (rw (m, unsigned_of sign digits minus s b) d, unsigned_of sign digits minus s b, is_minus_of sign digits minus s b)
 
-real_stop : (run : List ℕ) (parts : Parts) (r : IsReal run parts) → Stop (r.point ++ r.exponent)
-real_stop run parts r = stop_of r.point r.exponent parts.fraction parts.power parts.minus r.point_is r.exponent_is r.no_integer
+real_stop : (run : List ℕ) (parts : RealParts) (r : IsReal run parts) → Stop (r.point ++ r.exponent)
+real_stop run parts r = stop_of r.point r.exponent parts.fraction parts.power parts.minus r.point_is r.exponent_is
+    r.no_integer
 
-real_begins : (run : List ℕ) (parts : Parts) (r : IsReal run parts) → begins is_sign (parts.whole ++ (r.point ++ r.exponent)) ≡ false
-real_begins run parts r = let s = real_stop run parts r in digits_begin parts.whole (r.point ++ r.exponent) r.whole_is (rw s.is s.no_sign)
+real_begins : (run : List ℕ) (parts : RealParts) (r : IsReal run parts) →
+    begins is_sign (parts.whole ++ (r.point ++ r.exponent)) ≡ false
+real_begins run parts r = let s = real_stop run parts r in
+    digits_begin parts.whole (r.point ++ r.exponent) r.whole_is (rw s.is s.no_sign)
 
-real_unsigned : (run : List ℕ) (parts : Parts) (r : IsReal run parts) → unsigned run ≡ parts.whole ++ (r.point ++ r.exponent)
-real_unsigned run parts r = ap unsigned r.joined ∙ unsigned_of r.sign (parts.whole ++ (r.point ++ r.exponent)) parts.negative r.sign_is (real_begins run parts r)
+real_unsigned : (run : List ℕ) (parts : RealParts) (r : IsReal run parts) → unsigned run ≡ parts.whole
+    ++ (r.point ++ r.exponent)
+real_unsigned run parts r = ap unsigned r.joined
+    ∙ unsigned_of r.sign (parts.whole ++ (r.point ++ r.exponent)) parts.negative r.sign_is (real_begins run parts r)
 
-real_minus : (run : List ℕ) (parts : Parts) → IsReal run parts → is_minus run ≡ parts.negative
-real_minus run parts r = ap is_minus r.joined ∙ is_minus_of r.sign (parts.whole ++ (r.point ++ r.exponent)) parts.negative r.sign_is (real_begins run parts r)
+real_minus : (run : List ℕ) (parts : RealParts) → IsReal run parts → is_minus run ≡ parts.negative
+real_minus run parts r = ap is_minus r.joined
+    ∙ is_minus_of r.sign (parts.whole ++ (r.point ++ r.exponent)) parts.negative r.sign_is (real_begins run parts r)
 
-real_run : (run : List ℕ) (parts : Parts) (r : IsReal run parts) → IsRun is_digit (unsigned run) parts.whole (r.point ++ r.exponent)
-real_run run parts r = let s = real_stop run parts r in record { joined = real_unsigned run parts r; passes = r.whole_is; stops = rw s.is s.no_digit }
+real_run : (run : List ℕ) (parts : RealParts) (r : IsReal run parts) →
+    IsRegularRun is_digit (unsigned run) parts.whole (r.point ++ r.exponent)
+real_run run parts r = let s = real_stop run parts r in
+    record { joined = real_unsigned run parts r; passes = r.whole_is; stops = rw s.is s.no_digit }
 
-real_whole : (run : List ℕ) (parts : Parts) → IsReal run parts → digits_in (unsigned run) ≡ parts.whole
+real_whole : (run : List ℕ) (parts : RealParts) → IsReal run parts → digits_in (unsigned run) ≡ parts.whole
 real_whole run parts r = run_is_take is_digit (unsigned run) parts.whole (r.point ++ r.exponent) (real_run run parts r)
 
-real_behind : (run : List ℕ) (parts : Parts) (r : IsReal run parts) → behind_digits (unsigned run) ≡ r.point ++ r.exponent
+real_behind : (run : List ℕ) (parts : RealParts) (r : IsReal run parts) → behind_digits (unsigned run) ≡ r.point
+    ++ r.exponent
 real_behind run parts r = run_is_drop is_digit (unsigned run) parts.whole (r.point ++ r.exponent) (real_run run parts r)
 
-real_fraction : (run : List ℕ) (parts : Parts) → IsReal run parts → fraction_of (behind_digits (unsigned run)) ≡ parts.fraction
-real_fraction run parts r = ap fraction_of (real_behind run parts r) ∙ (point_reads r.point r.exponent parts.fraction parts.power parts.minus r.point_is r.exponent_is).0
+real_fraction : (run : List ℕ) (parts : RealParts) → IsReal run parts →
+    fraction_of (behind_digits (unsigned run)) ≡ parts.fraction
+real_fraction run parts r = ap fraction_of (real_behind run parts r)
+    ∙ (point_reads r.point r.exponent parts.fraction parts.power parts.minus r.point_is r.exponent_is).0
 
-real_exponent : (run : List ℕ) (parts : Parts) (r : IsReal run parts) → behind_fraction (behind_digits (unsigned run)) ≡ r.exponent
-real_exponent run parts r = ap behind_fraction (real_behind run parts r) ∙ (point_reads r.point r.exponent parts.fraction parts.power parts.minus r.point_is r.exponent_is).1
+real_exponent : (run : List ℕ) (parts : RealParts) (r : IsReal run parts) →
+    behind_fraction (behind_digits (unsigned run)) ≡ r.exponent
+real_exponent run parts r = ap behind_fraction (real_behind run parts r)
+    ∙ (point_reads r.point r.exponent parts.fraction parts.power parts.minus r.point_is r.exponent_is).1
 
-real_is : (run : List ℕ) (parts : Parts) → IsReal run parts → is_real run ≡ true
+real_is : (run : List ℕ) (parts : RealParts) → IsReal run parts → is_real run ≡ true
 real_is run parts r =
     let p = power_reads r.exponent parts.power parts.minus r.exponent_is in
-    rw (real_whole run parts r, real_fraction run parts r, real_exponent run parts r, p.0, le-leb 1 (length parts.whole + length parts.fraction) r.some_digit) refl
+    rw (
+      real_whole run parts r,
+      real_fraction run parts r,
+      real_exponent run parts r,
+      p.0,
+      le-leb 1 (length parts.whole + length parts.fraction) r.some_digit,
+    ) refl
 
-real_parts : (run : List ℕ) (parts : Parts) → IsReal run parts → parts_of run ≡ parts
+real_parts : (run : List ℕ) (parts : RealParts) → IsReal run parts → parts_of run ≡ parts
 unfolding parts_of
 real_parts run parts r =
     let p = power_reads r.exponent parts.power parts.minus r.exponent_is in
-    rw (real_minus run parts r, real_whole run parts r, real_fraction run parts r, real_exponent run parts r, p.1, p.2) refl
+    rw (
+      real_minus run parts r,
+      real_whole run parts r,
+      real_fraction run parts r,
+      real_exponent run parts r,
+      p.1,
+      p.2,
+    ) refl
 
-real_no_integer : (run : List ℕ) (parts : Parts) → IsReal run parts → is_integer run ≡ false
+real_no_integer : (run : List ℕ) (parts : RealParts) → IsReal run parts → is_integer run ≡ false
 real_no_integer run parts r =
     let s = real_stop run parts r in
     ap are_digits (real_unsigned run parts r) ∙ rw s.is (not_digits parts.whole s.head s.rest s.no_digit)
 
-signed_no_radix : (sign whole tail : List ℕ) (negative : Bool) → Sign sign negative → list_all is_digit whole ≡ true → Stop tail → is_radix (sign ++ (whole ++ tail)) ≡ false
+signed_no_radix : (sign whole tail : List ℕ) (negative : Bool) → Sign sign negative → list_all is_digit whole ≡ true →
+    Stop tail → is_radix (sign ++ (whole ++ tail)) ≡ false
 signed_no_radix _ whole tail _ NoSign w s =
-    let r : IsRun is_digit (whole ++ tail) whole tail = record { joined = refl; passes = w; stops = rw s.is s.no_digit } in
-    ap (λ front. is_radix_behind front (behind_digits (whole ++ tail))) (run_is_take is_digit (whole ++ tail) whole tail r)
+    let r : IsRegularRun is_digit (whole ++ tail) whole tail =
+    record { joined = refl; passes = w; stops = rw s.is s.no_digit } in
+    ap (λ front. is_radix_behind front (behind_digits (whole ++ tail)))
+    (run_is_take is_digit (whole ++ tail) whole tail r)
     ∙ (ap (is_radix_behind whole) (run_is_drop is_digit (whole ++ tail) whole tail r ∙ s.is) ∙ rw s.no_hash refl)
 signed_no_radix _ whole tail _ Plus w s = refl
 signed_no_radix _ whole tail _ Minus w s = refl
 
-real_no_radix : (run : List ℕ) (parts : Parts) → IsReal run parts → is_radix run ≡ false
-real_no_radix run parts r = ap is_radix r.joined ∙ signed_no_radix r.sign parts.whole (r.point ++ r.exponent) parts.negative r.sign_is r.whole_is (real_stop run parts r)
+real_no_radix : (run : List ℕ) (parts : RealParts) → IsReal run parts → is_radix run ≡ false
+real_no_radix run parts r = ap is_radix r.joined
+    ∙ signed_no_radix r.sign parts.whole (r.point ++ r.exponent) parts.negative r.sign_is r.whole_is
+    (real_stop run parts r)
 
-real_only : (run : List ℕ) (parts : Parts) → IsReal run parts → numeral_of run ≡ Some (real_numeral parts)
+real_only : (run : List ℕ) (parts : RealParts) → IsReal run parts → numeral_of run ≡ Some (real_numeral parts)
 unfolding numeral_of
-real_only run parts r = rw (real_no_integer run parts r, real_no_radix run parts r, real_is run parts r, real_parts run parts r) refl
+real_only run parts r = rw (
+  real_no_integer run parts r,
+  real_no_radix run parts r,
+  real_is run parts r,
+  real_parts run parts r,
+) refl
 
 -- a number that the grammar relates to a run is the one that the function finds
 pub numeral_only : (run : List ℕ) (numeral : Numeral) → IsNumeral run numeral → numeral_of run ≡ Some numeral
@@ -242,51 +314,73 @@ record SplitSign (run : List ℕ) : Type 0 where
 split_sign : (run : List ℕ) → SplitSign run
 split_sign [] = record { sign = []; sign_is = NoSign; joined = refl }
 split_sign (c ∷ cs) = by_bool (c == 43)
-    (λ e. subst (λ (d : ℕ). SplitSign (d ∷ cs)) (sym (eqb-true c 43 e)) (record { sign = 43 ∷ []; sign_is = Plus; joined = refl }))
+    (λ e. subst (λ (d : ℕ). SplitSign (d ∷ cs)) (sym (eqb-true c 43 e))
+    (record { sign = 43 ∷ []; sign_is = Plus; joined = refl }))
     (λ e. by_bool (c == 45)
-    (λ f. subst (λ (d : ℕ). SplitSign (d ∷ cs)) (sym (eqb-true c 45 f)) (record { sign = 45 ∷ []; sign_is = Minus; joined = refl }))
+    (λ f. subst (λ (d : ℕ). SplitSign (d ∷ cs)) (sym (eqb-true c 45 f))
+    (record { sign = 45 ∷ []; sign_is = Minus; joined = refl }))
     (λ f. record { sign = []; sign_is = rw f NoSign; joined = rw (e, f) refl }))
 
 integer_found : (run : List ℕ) → is_integer run ≡ true → IsInteger run (is_minus run) (unsigned run)
-integer_found run h = let s = split_sign run in record { sign = s.sign; sign_is = s.sign_is; joined = s.joined; digits_are = h }
+integer_found run h = let s = split_sign run in
+    record { sign = s.sign; sign_is = s.sign_is; joined = s.joined; digits_are = h }
 
-radix_behind_is : (front tail : List ℕ) → is_radix_behind front tail ≡ true → (tail ≡ 35 ∷ drop 1 tail) × (is_base front ≡ true) × (are_digits_below (decimal_value front) (drop 1 tail) ≡ true)
+radix_behind_is : (front tail : List ℕ) → is_radix_behind front tail ≡ true → (tail ≡ 35 ∷ drop 1 tail) ×
+    (is_base front ≡ true) × (are_digits_below (decimal_value front) (drop 1 tail) ≡ true)
 radix_behind_is front [] h = absurd (false≢true h)
 radix_behind_is front (c ∷ cs) h =
     let rest = is_base front && are_digits_below (decimal_value front) cs in
-    let both = and_second (c == 35) rest h in
-    (ap (λ d. d ∷ cs) (eqb-true c 35 (and_first (c == 35) rest h)), and_first (is_base front) (are_digits_below (decimal_value front) cs) both, and_second (is_base front) (are_digits_below (decimal_value front) cs) both)
+    let both = and_second (c == 35) rest h in (
+      ap (λ d. d ∷ cs) (eqb-true c 35 (and_first (c == 35) rest h)),
+      and_first (is_base front) (are_digits_below (decimal_value front) cs) both,
+      and_second (is_base front) (are_digits_below (decimal_value front) cs) both,
+    )
 
 radix_found : (run : List ℕ) → is_radix run ≡ true → IsRadix run (base_of run) (radix_digits run)
 radix_found run h =
     let b = radix_behind_is (digits_in run) (behind_digits run) h in
-    record { front = digits_in run; joined = sym (take-append-drop (prefix_len is_digit run) run) ∙ ap (λ t. digits_in run ++ t) b.0; base_is = b.1; value = refl; digits_are = b.2 }
+    record {
+      front = digits_in run;
+      joined = sym (take-append-drop (prefix_len is_digit run) run)
+          ∙ ap (λ t. digits_in run ++ t) b.0;
+      base_is = b.1;
+      value = refl;
+      digits_are = b.2;
+    }
 
 record SplitPoint (tail : List ℕ) : Type 0 where
   point : List ℕ
-  point_is : Point point (fraction_of tail)
+  point_is : DecimalPoint point (fraction_of tail)
   joined : tail ≡ point ++ behind_fraction tail
 
 split_point : (tail : List ℕ) → SplitPoint tail
 split_point [] = record { point = []; point_is = NoPoint; joined = refl }
 split_point (c ∷ cs) = by_bool (c == 46)
-    (λ e. subst (λ (d : ℕ). SplitPoint (d ∷ cs)) (sym (eqb-true c 46 e)) (record { point = 46 ∷ digits_in cs; point_is = APoint (digits_in cs) (passes_front is_digit cs); joined = ap (λ t. 46 ∷ t) (sym (take-append-drop (prefix_len is_digit cs) cs)) }))
+    (λ e. subst (λ (d : ℕ). SplitPoint (d ∷ cs)) (sym (eqb-true c 46 e))
+    (record {
+      point = 46 ∷ digits_in cs;
+      point_is = APoint (digits_in cs) (passes_front is_digit cs);
+      joined =
+          ap (λ t. 46 ∷ t) (sym (take-append-drop (prefix_len is_digit cs) cs));
+    }))
     (λ e. record { point = []; point_is = rw e NoPoint; joined = rw e refl })
 
-power_found : (tail : List ℕ) → is_power tail ≡ true → Power tail (power_minus tail) (power_digits tail)
+power_found : (tail : List ℕ) → is_power tail ≡ true → Exponent tail (power_minus tail) (power_digits tail)
 power_found [] h = NoPower
 power_found (c ∷ cs) h =
     let s = split_sign cs in
     let mark = and_first (is_power_mark c) (are_digits (unsigned cs)) h in
     let digits = and_second (is_power_mark c) (are_digits (unsigned cs)) h in
-    subst (λ (t : List ℕ). Power (c ∷ t) (is_minus cs) (unsigned cs)) (sym s.joined) (APower c s.sign (unsigned cs) (is_minus cs) mark s.sign_is digits)
+    subst (λ (t : List ℕ). Exponent (c ∷ t) (is_minus cs) (unsigned cs)) (sym s.joined)
+    (APower c s.sign (unsigned cs) (is_minus cs) mark s.sign_is digits)
 
 no_tail : (digits : List ℕ) → digits ++ [] ≡ digits
 no_tail [] = refl
 no_tail (c ∷ cs) = ap (λ t. c ∷ t) (no_tail cs)
 
 -- a run of digits alone would be an integer
-some_behind : (body whole tail : List ℕ) → body ≡ whole ++ tail → list_all is_digit whole ≡ true → 0 < length whole + length (fraction_of tail) → are_digits body ≡ false → 0 < length tail
+some_behind : (body whole tail : List ℕ) → body ≡ whole ++ tail → list_all is_digit whole ≡ true →
+    0 < length whole + length (fraction_of tail) → are_digits body ≡ false → 0 < length tail
 some_behind body [] [] j w some n = absurd (omega (arith, some))
 some_behind body (c ∷ cs) [] j w some n =
     let digits : are_digits (c ∷ cs) ≡ true = rw (le-leb 1 (length (c ∷ cs)) (omega arith)) w in
@@ -302,10 +396,13 @@ real_found run h n =
     let tail = behind_digits body in
     let p = split_point tail in
     let joined : body ≡ whole ++ tail = sym (take-append-drop (prefix_len is_digit body) body) in
-    let some : 0 < length whole + length (fraction_of tail) = leb-true 1 (length whole + length (fraction_of tail)) (and_first (nat_lt 0 (length whole + length (fraction_of tail))) (is_power (behind_fraction tail)) h) in
+    let some : 0 < length whole + length (fraction_of tail) =
+    leb-true 1 (length whole + length (fraction_of tail))
+    (and_first (nat_lt 0 (length whole + length (fraction_of tail))) (is_power (behind_fraction tail)) h) in
     let power = and_second (nat_lt 0 (length whole + length (fraction_of tail))) (is_power (behind_fraction tail)) h in
     let longer : 0 < length tail = some_behind body whole tail joined (passes_front is_digit body) some n in
-    let lengths : length tail ≡ length p.point + length (behind_fraction tail) = ap length p.joined ∙ length-append p.point (behind_fraction tail) in
+    let lengths : length tail ≡ length p.point + length (behind_fraction tail) = ap length p.joined
+    ∙ length-append p.point (behind_fraction tail) in
     record {
       sign = s.sign;
       point = p.point;
@@ -333,13 +430,20 @@ numeral_cases run = by_bool (is_integer run)
 some_or_none : (numeral : Numeral) (found : Option Numeral) → found ≡ Some numeral → found ≡ None → ⊥
 some_or_none numeral found s n = let e : Some numeral ≡ None = sym s ∙ n in cc e
 
+-- a run that has the form of no number has no number
 pub no_numeral : (run : List ℕ) → ((numeral : Numeral) → IsNumeral run numeral → ⊥) → numeral_of run ≡ None
 no_numeral run n = elim (numeral_cases run) [ inl found ↦ absurd (n found.0 found.1) | inr none ↦ none ]
 
 -- a number by its form, or none
-pub numeral_total : (run : List ℕ) → ((numeral : Numeral) × IsNumeral run numeral) ⊎ ((numeral : Numeral) → IsNumeral run numeral → ⊥)
-numeral_total run = elim (numeral_cases run) [ inl found ↦ inl found | inr none ↦ inr (λ numeral i. some_or_none numeral (numeral_of run) (numeral_only run numeral i) none) ]
+pub numeral_total : (run : List ℕ) → ((numeral : Numeral) × IsNumeral run numeral) ⊎
+    ((numeral : Numeral) → IsNumeral run numeral → ⊥)
+numeral_total run = elim (numeral_cases run) [
+  | inl found ↦ inl found
+  | inr none ↦
+      inr (λ numeral i. some_or_none numeral (numeral_of run) (numeral_only run numeral i) none)
+]
 
+-- a number has one byte at least
 pub numeral_some : (run : List ℕ) (numeral : Numeral) → IsNumeral run numeral → 0 < length run
 unfolding numeral_of
 numeral_some [] numeral i = absurd (some_or_none numeral (numeral_of []) (numeral_only [] numeral i) refl)

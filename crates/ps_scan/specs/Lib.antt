@@ -11,4 +11,4 @@ pub mod Place
 pub mod NumeralReading
 pub mod StringReading
 pub mod Reading
-pub mod Filling
+pub mod Code

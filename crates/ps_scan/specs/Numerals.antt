@@ -2,7 +2,7 @@
 -- Numbers).
 use Rattle.std.specs.Prelude.{ℕ, Bool, List}
 use Rattle.ps_scan.specs.Integers.{IsInteger, decimal_value, integer_numeral}
-use Rattle.ps_scan.specs.Reals.{Parts, IsReal, real_numeral}
+use Rattle.ps_scan.specs.Reals.{RealParts, IsReal, real_numeral}
 use Rattle.ps_scan.specs.Radix.{IsRadix, radix_value, radix_numeral}
 use Rattle.ps_scan.specs.declared.numerals.Numeral.{Numeral}
 
@@ -11,7 +11,7 @@ pub data IsNumeral : List ℕ → Numeral → Type 0 where
   Integer : (run : List ℕ) (negative : Bool) (digits : List ℕ)
       → IsInteger run negative digits
       → IsNumeral run (integer_numeral negative (decimal_value digits))
-  Real : (run : List ℕ) (parts : Parts) → IsReal run parts → IsNumeral run (real_numeral parts)
+  Real : (run : List ℕ) (parts : RealParts) → IsReal run parts → IsNumeral run (real_numeral parts)
   Radix : (run : List ℕ) (base : ℕ) (digits : List ℕ)
       → IsRadix run base digits
       → IsNumeral run (radix_numeral (radix_value base digits))

@@ -8,10 +8,10 @@ use Rattle.ps_scan.specs.declared.token.ScanFault.TheVariants.{Syntax, Limit, No
 
 -- a token and the rest of the text, or none: for its syntax (syntaxerror), or for a limit
 -- (limitcheck)
-pub data Outcome : Type 0 where
-  Gives : Token → List ℕ → Outcome
-  BreaksSyntax : Outcome
-  PassesLimit : Outcome
+pub data ScanOutcome : Type 0 where
+  Gives : Token → List ℕ → ScanOutcome
+  BreaksSyntax : ScanOutcome
+  PassesLimit : ScanOutcome
 
 -- how many procedures are open behind a token
 abbrev pub depth_after : Token → ℕ → ℕ
@@ -25,6 +25,7 @@ depth_after Open depth = depth + 1
 depth_after Close depth = depth - 1
 depth_after End depth = depth
 
+-- a token is one of a string
 abbrev pub IsText : Token → Type 0
 IsText (Int n) = ⊥
 IsText (Real n) = ⊥
@@ -37,18 +38,19 @@ IsText Close = ⊥
 IsText End = ⊥
 
 -- a string's token, the only one that takes memory
-abbrev pub GivesText : Outcome → Type 0
+abbrev pub GivesText : ScanOutcome → Type 0
 GivesText (Gives token rest) = IsText token
 GivesText BreaksSyntax = ⊥
 GivesText PassesLimit = ⊥
 
 -- the fault that stands in place of a token; memory is wanted for a string alone
-abbrev pub IsFaultOf : ScanFault → Outcome → Type 0
+abbrev pub IsFaultOf : ScanFault → ScanOutcome → Type 0
 IsFaultOf Syntax outcome = outcome ≡ BreaksSyntax
 IsFaultOf Limit outcome = outcome ≡ PassesLimit
 IsFaultOf NoMemory outcome = GivesText outcome
 
--- what holds of each token that is given: lengths, nesting, and that the text ends at End alone
+-- what holds of each token that is given: a name has at most 127 bytes and a string 65,535, at most 64 procedures are
+-- open, and at the end none is open and no text is left
 abbrev pub IsWithinLimits : ℕ → Token → List ℕ → Type 0
 IsWithinLimits depth (Int n) rest = Unit {0}
 IsWithinLimits depth (Real n) rest = Unit {0}

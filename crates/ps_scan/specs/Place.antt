@@ -2,6 +2,7 @@
 -- that is left.
 use Rattle.std.specs.Prelude.{ℕ, List}
 
-pub record Place : Type 0 where
+-- how many procedures are open, and the text that is left
+pub record ScannerValue : Type 0 where
   pub depth : ℕ
   pub rest : List ℕ

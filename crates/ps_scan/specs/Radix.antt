@@ -1,5 +1,6 @@
 -- Radix numbers (PostScript Language Reference, third edition, 3.2 Syntax, Numbers).
-use Rattle.std.specs.Prelude.{◌≡◌, ℕ, ◌+◌, ◌*◌, ◌^◌, ℤ, pos, ◌-ℤ◌, Bool, true, ◌&&◌, ◌||◌, List, ◌∷◌, ◌++◌, length, if◌then◌else◌, nat_le, nat_lt}
+use Rattle.std.specs.Prelude.{◌≡◌, ℕ, ◌+◌, ◌*◌, ◌^◌, ℤ, pos, ◌-ℤ◌, Bool, true, ◌&&◌, ◌||◌, List, ◌∷◌, ◌++◌, length}
+use Rattle.std.specs.Prelude.{if◌then◌else◌, nat_le, nat_lt}
 use Rattle.std.specs.List.{list_all, fold}
 use Rattle.ps_scan.specs.Characters.{is_digit, is_letter, digit_value}
 use Rattle.ps_scan.specs.Integers.{decimal_value}
@@ -16,6 +17,7 @@ is_base front =
 abbrev pub is_digit_below : ℕ → ℕ → Bool
 is_digit_below base c = (is_digit c || is_letter c) && nat_lt (digit_value c) base
 
+-- one digit or letter at least, each below the base, and nothing else
 abbrev pub are_digits_below : ℕ → List ℕ → Bool
 are_digits_below base digits = nat_lt 0 (length digits) && list_all (is_digit_below base) digits
 
@@ -35,5 +37,6 @@ radix_value base digits = fold (λ value c. base * value + digit_value c) 0 digi
 abbrev pub as_signed : ℕ → ℤ
 as_signed n = if nat_le n 2147483647 then pos n else pos n -ℤ pos (2 ^ 32)
 
+-- the integer of a radix number's value, or that it passes 4294967295
 abbrev pub radix_numeral : ℕ → Numeral
 radix_numeral n = if nat_le n 4294967295 then Whole (as_signed n) else TooGreat

@@ -1,6 +1,7 @@
 -- The body of a string, read a byte at a time. Own rule: the function that Strings is proved
 -- against.
-use Rattle.std.specs.Prelude.{ℕ, ◌+◌, ◌-◌, ◌*◌, ◌%◌, ◌==◌, ◌<◌, ◌≤◌, Bool, true, false, List, [], ◌∷◌, if◌then◌else◌, Option, Some, None}
+use Rattle.std.specs.Prelude.{ℕ, ◌+◌, ◌-◌, ◌*◌, ◌%◌, ◌==◌, ◌<◌, ◌≤◌, Bool, true, false, List, [], ◌∷◌, if◌then◌else◌}
+use Rattle.std.specs.Prelude.{Option, Some, None}
 use Rattle.ps_scan.specs.Strings.{is_octal, escaped}
 use Rattle.ps_scan.specs.declared.strings.Inside.{Inside}
 use Rattle.ps_scan.specs.declared.strings.Inside.TheVariants.{Normal, Return, Escape, One, Two}
@@ -9,18 +10,21 @@ use Rattle.ps_scan.specs.declared.strings.Does.TheVariants.{Ends, Goes, Waits}
 
 -- the bytes meant, and how long the body is with its last parenthesis; one that doesn't end is read
 -- to its end
-pub record Walk : Type 0 where
+pub record StringWalk : Type 0 where
   pub closed : Bool
   pub used : ℕ
   pub bytes : List ℕ
 
-abbrev pub one_more : Walk → Walk
+-- a walk with one byte more read
+abbrev pub one_more : StringWalk → StringWalk
 one_more w = record { closed = w.closed; used = 1 + w.used; bytes = w.bytes }
 
-abbrev pub gives : ℕ → Walk → Walk
+-- a walk with one byte more meant, in front
+abbrev pub gives : ℕ → StringWalk → StringWalk
 gives b w = record { closed = w.closed; used = w.used; bytes = b ∷ w.bytes }
 
-abbrev pub stop : Bool → ℕ → Walk
+-- the walk at the end of the body, or of the text
+abbrev pub stop : Bool → ℕ → StringWalk
 stop closed used = record { closed = closed; used = used; bytes = [] }
 
 -- what a byte in its normal meaning does
@@ -32,20 +36,23 @@ normal inner c =
     else if c == 13 then Goes Return inner 10
     else Goes Normal inner c
 
-abbrev pub resume : Does → (Inside → ℕ → Walk) → Walk
+-- the walk from what a byte does on
+abbrev pub resume : Does → (Inside → ℕ → StringWalk) → StringWalk
 resume Ends next = stop true 1
 resume (Goes inside inner b) next = gives b (one_more (next inside inner))
 resume (Waits inside inner) next = one_more (next inside inner)
 
 -- an octal escape that the byte ends, and what the byte does
-pub record Step : Type 0 where
+pub record StringStep : Type 0 where
   pub first : Option ℕ
   pub does : Does
 
-abbrev pub plain_step : Does → Step
+-- what a byte does where it ends no octal escape
+abbrev pub plain_step : Does → StringStep
 plain_step does = record { first = None; does = does }
 
-abbrev pub step : Inside → ℕ → ℕ → Step
+-- what a byte does anywhere in a body, where so many parentheses are open inside
+abbrev pub step : Inside → ℕ → ℕ → StringStep
 step Normal inner c = plain_step (normal inner c)
 step Return inner c = if c == 10 then plain_step (Waits Normal inner) else plain_step (normal inner c)
 step Escape inner c =
@@ -60,17 +67,18 @@ step (Two v) inner c =
     if is_octal c then plain_step (Goes Normal inner ((8 * v + (c - 48)) % 256))
     else record { first = Some v; does = normal inner c }
 
-abbrev pub put_first : Option ℕ → Walk → Walk
+-- a walk with the byte of an octal escape in front, if there is one
+abbrev pub put_first : Option ℕ → StringWalk → StringWalk
 put_first None w = w
 put_first (Some b) w = gives b w
 
 -- the walk through a body from its first byte
-unfoldable pub walk : Inside → ℕ → List ℕ → Walk
+unfoldable pub walk : Inside → ℕ → List ℕ → StringWalk
 walk inside inner [] = stop false 0
 walk inside inner (c ∷ cs) =
     put_first (step inside inner c).first (resume (step inside inner c).does (λ s i. walk s i cs))
 
--- the value of one octal digit
+-- the value of a first octal digit is below 8
 abbrev pub is_small : Inside → Type 0
 is_small Normal = Unit {0}
 is_small Return = Unit {0}
@@ -78,8 +86,8 @@ is_small Escape = Unit {0}
 is_small (One v) = v < 8
 is_small (Two v) = Unit {0}
 
--- where a step leads to
-abbrev pub IsNear : ℕ → Does → Type 0
-IsNear inner Ends = Unit {0}
-IsNear inner (Goes inside next b) = is_small inside × (next ≤ inner + 1)
-IsNear inner (Waits inside next) = is_small inside × (next ≤ inner + 1)
+-- where a step leads to: a first octal digit below 8, and at most one parenthesis more open
+abbrev pub IsNearFront : ℕ → Does → Type 0
+IsNearFront inner Ends = Unit {0}
+IsNearFront inner (Goes inside next b) = is_small inside × (next ≤ inner + 1)
+IsNearFront inner (Waits inside next) = is_small inside × (next ≤ inner + 1)

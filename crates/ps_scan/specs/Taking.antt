@@ -9,7 +9,7 @@ use Rattle.ps_scan.specs.Characters.{is_hex, pairs}
 abbrev pub hex_count : ℕ → List ℕ → ℕ
 hex_count room text = min room (length (filter is_hex text) / 2)
 
--- these bytes
+-- the bytes that the digits of a text fill, at most so many
 abbrev pub hex_front : ℕ → List ℕ → List ℕ
 hex_front room text = take (hex_count room text) (pairs (filter is_hex text))
 

@@ -1,7 +1,8 @@
 //! Kinds of bytes.
 ghost use Rattle.std.specs.Prelude.{◌≡◌, ◌≤◌, ◌<◌, ◌||◌, true, ◌+◌, not, drop, length, false};
 ghost use Rattle.std.specs.List.{prefix_len};
-ghost use Rattle.ps_scan.specs.Characters.{is_digit, is_letter, is_hex, digit_value, is_white, is_line_end, is_regular, white_after};
+ghost use Rattle.ps_scan.specs.Characters.{is_digit, is_letter, is_hex, digit_value, is_white, is_line_end, is_regular};
+ghost use Rattle.ps_scan.specs.Characters.{white_after};
 ghost use Rattle.ps_scan.specs.Reading.{blank_len};
 
 /// Whether a byte is white space.

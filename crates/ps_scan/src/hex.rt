@@ -1,12 +1,13 @@
 //! Hexadecimal digits, and strings of them.
-ghost use Rattle.std.specs.Prelude.{◌≡◌, ◌≤◌, ◌<◌, IsTrue, IfErr, ◌+◌, ◌*◌, ◌/◌, ◌^◌, ◌++◌, length, true, false, Option, Some, None, IfOk};
+ghost use Rattle.std.specs.Prelude.{◌≡◌, ◌≤◌, ◌<◌, IsTrue, IfErr, ◌+◌, ◌*◌, ◌/◌, ◌^◌, ◌++◌, length, true, false};
+ghost use Rattle.std.specs.Prelude.{Option, Some, None, IfOk};
 ghost use Rattle.std.specs.List.{prefix_len, count_by};
 ghost use Rattle.ps_scan.specs.Characters.{is_hex, digit_value, is_hex_or_white, begins, is_greater};
-ghost use Rattle.ps_scan.specs.Reading.{IsRefusal, hex_bytes, hex_len, hex_text, read_hex};
+ghost use Rattle.ps_scan.specs.Reading.{IsScanRefusal, hex_bytes, hex_len, hex_text, read_hex};
 ghost use Rattle.ps_scan.specs.Reading.Reading.{Found};
 
 use crate::characters::{is_white_space, value_of_digit};
-use crate::token::{Bytes, FrontToken, ScanFault, TEXT_LIMIT, Token};
+use crate::token::{FrontToken, ScanFault, TEXT_LIMIT, Token, TokenBytes};
 use press_fault::Mem;
 use std::alloc::Global;
 
@@ -38,10 +39,10 @@ fn hex_count(body: &[u8]) -> usize
 
 /// The bytes that the digits stand for.
 #[tactic(auto, unfolding(crate::specs::Reading::hex_bytes))]
-fn bytes_of_hex(alloc: Global, body: &[u8], count: usize) -> Mem<Bytes>
+fn bytes_of_hex(alloc: Global, body: &[u8], count: usize) -> Mem<TokenBytes>
     ensures { IfOk result (λ bytes. bytes ≡ hex_bytes None body.now) }
 {
-    let mut bytes = Bytes::with_room(alloc, count)?;
+    let mut bytes = TokenBytes::with_room(alloc, count)?;
     let mut half: Option<u8> = None;
     for c in body {
         if is_hex_digit(*c) {
@@ -67,7 +68,7 @@ fn hex_text_token(alloc: Global, body: &[u8]) -> FrontToken
     requires { length body.now < 2 ^ 63 }
     ensures ok { IfOk result (λ found. hex_text body.now ≡ Found found.0 found.1) }
     ensures bound { IfOk result (λ found. found.1 ≡ length body.now + 2) }
-    ensures err { IfErr result (λ fault. IsRefusal fault (hex_text body.now)) }
+    ensures err { IfErr result (λ fault. IsScanRefusal fault (hex_text body.now)) }
 {
     let count = hex_count(body);
     if count > TEXT_LIMIT {
@@ -85,7 +86,7 @@ pub(crate) fn hex_token(alloc: Global, text: &[u8]) -> FrontToken
     requires { length text.now < 2 ^ 63 }
     ensures ok { IfOk result (λ found. read_hex text.now ≡ Found found.0 found.1) }
     ensures bound { IfOk result (λ found. found.1 ≤ 1 + length text.now) }
-    ensures err { IfErr result (λ fault. IsRefusal fault (read_hex text.now)) }
+    ensures err { IfErr result (λ fault. IsScanRefusal fault (read_hex text.now)) }
 {
     let (body, rest) = text.split_at(hex_or_white_len(text));
     if begins_greater(rest) {

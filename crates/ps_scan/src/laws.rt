@@ -2,8 +2,8 @@
 //! nothing.
 ghost use Rattle.std.specs.Prelude.{◌≡◌, ◌<◌, ℕ, List, length};
 ghost use Rattle.ps_scan.specs.Grammar.{IsRead};
-ghost use Rattle.ps_scan.specs.Outcome.{Outcome, IsWithinLimits};
-ghost use Rattle.ps_scan.specs.Outcome.Outcome.{Gives};
+ghost use Rattle.ps_scan.specs.Outcome.{ScanOutcome, IsWithinLimits};
+ghost use Rattle.ps_scan.specs.Outcome.ScanOutcome.{Gives};
 ghost use Rattle.ps_scan.specs.Reading.{scanned};
 ghost use Rattle.ps_scan.specs.declared.token.Token.{Token};
 ghost use Rattle.ps_scan.specs.declared.token.Token.TheVariants.{End};
@@ -16,7 +16,7 @@ pub fn scanned_is_read()
 /// The grammar relates nothing else to the text. So no text has two tokens, and where it has none,
 /// it has exactly one of the two faults.
 pub fn only_scanned_is_read()
-    ensures { (depth : ℕ) (text : List ℕ) (outcome : Outcome) →
+    ensures { (depth : ℕ) (text : List ℕ) (outcome : ScanOutcome) →
         IsRead depth text outcome → outcome ≡ scanned depth text }
 {}
 

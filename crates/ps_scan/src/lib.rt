@@ -18,8 +18,6 @@ mod reading;
 mod reals;
 mod scanner;
 mod strings;
-#[cfg(test)]
-mod tests;
 mod token;
 mod words;
 
@@ -30,4 +28,4 @@ pub use numerals::Numeral;
 pub use reading::NESTING_LIMIT;
 pub use scanner::Scanner;
 pub use strings::{Does, Inside};
-pub use token::{Bytes, ScanFault, TEXT_LIMIT, Token};
+pub use token::{ScanFault, TEXT_LIMIT, Token, TokenBytes};

@@ -1,6 +1,7 @@
 //! The token at the front of a text, by its first byte.
 ghost use Rattle.std.specs.Prelude.{◌≡◌, ◌≤◌, ◌<◌, ◌+◌, ◌∷◌, [], ◌^◌, length, IfOk, IfErr};
-ghost use Rattle.ps_scan.specs.Reading.{IsRefusal, reads, and_white, ended, opened, closed, read_less, read_greater};
+ghost use Rattle.ps_scan.specs.Reading.{IsScanRefusal, reads, and_white, ended, opened, closed, read_less};
+ghost use Rattle.ps_scan.specs.Reading.{read_greater};
 ghost use Rattle.ps_scan.specs.Reading.Reading.{Found};
 ghost use Rattle.ps_scan.specs.declared.token.Token.TheVariants.{Exec};
 
@@ -19,7 +20,7 @@ pub const NESTING_LIMIT: u32 = 64;
 fn open_token(depth: u32) -> FrontToken
     ensures ok { IfOk result (λ found. opened depth ≡ Found found.0 found.1) }
     ensures bound { IfOk result (λ found. found.1 ≤ 1) }
-    ensures err { IfErr result (λ fault. IsRefusal fault (opened depth)) }
+    ensures err { IfErr result (λ fault. IsScanRefusal fault (opened depth)) }
 {
     if depth < NESTING_LIMIT {
         Ok((Token::Open, 1))
@@ -32,7 +33,7 @@ fn open_token(depth: u32) -> FrontToken
 fn close_token(depth: u32) -> FrontToken
     ensures ok { IfOk result (λ found. closed depth ≡ Found found.0 found.1) }
     ensures bound { IfOk result (λ found. found.1 ≤ 1) }
-    ensures err { IfErr result (λ fault. IsRefusal fault (closed depth)) }
+    ensures err { IfErr result (λ fault. IsScanRefusal fault (closed depth)) }
 {
     if 0 < depth {
         Ok((Token::Close, 1))
@@ -45,7 +46,7 @@ fn close_token(depth: u32) -> FrontToken
 fn end_token(depth: u32) -> FrontToken
     ensures ok { IfOk result (λ found. ended depth ≡ Found found.0 found.1) }
     ensures bound { IfOk result (λ found. found.1 ≤ 0) }
-    ensures err { IfErr result (λ fault. IsRefusal fault (ended depth)) }
+    ensures err { IfErr result (λ fault. IsScanRefusal fault (ended depth)) }
 {
     if depth == 0 {
         Ok((Token::End, 0))
@@ -60,7 +61,7 @@ fn bracket_token(c: u8, text: &[u8]) -> FrontToken
     ensures ok { IfOk result (λ found.
         and_white (Exec (c ∷ [])) 1 text.now ≡ Found found.0 found.1) }
     ensures bound { IfOk result (λ found. found.1 ≤ length text.now) }
-    ensures err { IfErr result (λ fault. IsRefusal fault (and_white (Exec (c ∷ [])) 1 text.now)) }
+    ensures err { IfErr result (λ fault. IsScanRefusal fault (and_white (Exec (c ∷ [])) 1 text.now)) }
 {
     match Name::of(&[c]) {
         Some(name) => Ok((Token::Exec(name), with_white(1, text))),
@@ -75,7 +76,7 @@ fn pair_token(first: u8, second: u8, text: &[u8]) -> FrontToken
         and_white (Exec (first ∷ second ∷ [])) 2 text.now ≡ Found found.0 found.1) }
     ensures bound { IfOk result (λ found. found.1 ≤ length text.now) }
     ensures err { IfErr result (λ fault.
-        IsRefusal fault (and_white (Exec (first ∷ second ∷ [])) 2 text.now)) }
+        IsScanRefusal fault (and_white (Exec (first ∷ second ∷ [])) 2 text.now)) }
 {
     match Name::of(&[first, second]) {
         Some(name) => Ok((Token::Exec(name), with_white(2, text))),
@@ -90,7 +91,7 @@ fn less_token(alloc: Global, rest: &[u8], text: &[u8]) -> FrontToken
     requires short { length text.now < 2 ^ 63 }
     ensures ok { IfOk result (λ found. read_less rest.now text.now ≡ Found found.0 found.1) }
     ensures bound { IfOk result (λ found. found.1 ≤ length text.now) }
-    ensures err { IfErr result (λ fault. IsRefusal fault (read_less rest.now text.now)) }
+    ensures err { IfErr result (λ fault. IsScanRefusal fault (read_less rest.now text.now)) }
 {
     match rest {
         [] => Err(ScanFault::Syntax),
@@ -108,7 +109,7 @@ fn greater_token(rest: &[u8], text: &[u8]) -> FrontToken
     requires { length rest.now + 1 ≡ length text.now }
     ensures ok { IfOk result (λ found. read_greater rest.now text.now ≡ Found found.0 found.1) }
     ensures bound { IfOk result (λ found. found.1 ≤ length text.now) }
-    ensures err { IfErr result (λ fault. IsRefusal fault (read_greater rest.now text.now)) }
+    ensures err { IfErr result (λ fault. IsScanRefusal fault (read_greater rest.now text.now)) }
 {
     match rest {
         [] => Err(ScanFault::Syntax),
@@ -126,7 +127,7 @@ pub(crate) fn front_token(alloc: Global, depth: u32, text: &[u8]) -> FrontToken
     requires { length text.now < 2 ^ 63 }
     ensures ok { IfOk result (λ found. reads depth text.now ≡ Found found.0 found.1) }
     ensures bound { IfOk result (λ found. found.1 ≤ length text.now) }
-    ensures err { IfErr result (λ fault. IsRefusal fault (reads depth text.now)) }
+    ensures err { IfErr result (λ fault. IsScanRefusal fault (reads depth text.now)) }
 {
     match text {
         [] => end_token(depth),

@@ -1,11 +1,13 @@
 //! Reals.
-ghost use Rattle.std.specs.Prelude.{◌≡◌, ◌≤◌, ◌<◌, ◌+◌, ◌^◌, ◌++◌, length, true, ℤ, pos, ◌-ℤ◌, unsigned_abs, Some, None, if◌then◌else◌};
+ghost use Rattle.std.specs.Prelude.{◌≡◌, ◌≤◌, ◌<◌, ◌+◌, ◌^◌, ◌++◌, length, true, ℤ, pos, ◌-ℤ◌, unsigned_abs, Some};
+ghost use Rattle.std.specs.Prelude.{None, if◌then◌else◌};
 ghost use Rattle.std.specs.List.{list_all};
 ghost use Rattle.press_nums.specs.Decimal.{signed};
 ghost use Rattle.ps_scan.specs.Characters.{is_digit};
 ghost use Rattle.ps_scan.specs.Integers.{are_digits, decimal_value};
-ghost use Rattle.ps_scan.specs.Reals.{Parts, real_numeral};
-ghost use Rattle.ps_scan.specs.NumeralReading.{fraction_of, behind_fraction, is_power, power_digits, power_minus, parts_of, is_real};
+ghost use Rattle.ps_scan.specs.Reals.{RealParts, real_numeral};
+ghost use Rattle.ps_scan.specs.NumeralReading.{fraction_of, behind_fraction, is_power, power_digits, power_minus};
+ghost use Rattle.ps_scan.specs.NumeralReading.{parts_of, is_real};
 
 use crate::integers::{is_negative, is_number, small_value, without_sign};
 use crate::numerals::{Numeral, split_digits};

@@ -1,10 +1,11 @@
 //! The tokens of a program, one after another.
-ghost use Rattle.std.specs.Prelude.{◌≡◌, ◌≢◌, ◌≤◌, ◌<◌, ◌+◌, ◌*◌, ◌^◌, ◌++◌, ℕ, List, drop, take as list_take, length, min, false, None, IfOk, IfErr, IsErrOf, OnOk, OnErr, ◌↔◌};
+ghost use Rattle.std.specs.Prelude.{◌≡◌, ◌≢◌, ◌≤◌, ◌<◌, ◌+◌, ◌*◌, ◌^◌, ◌++◌, ℕ, List, drop, take as list_take, length};
+ghost use Rattle.std.specs.Prelude.{min, false, None, IfOk, IfErr, IsErrOf, OnOk, OnErr, ◌↔◌};
 ghost use Rattle.ps_scan.specs.Reading.{blank_len, scanned};
-ghost use Rattle.ps_scan.specs.Filling.{hex_put, hex_used};
+ghost use Rattle.ps_scan.specs.Code.Filling.{hex_put, hex_used};
 ghost use Rattle.ps_scan.specs.Taking.{hex_count, hex_front, behind_hex};
-ghost use Rattle.ps_scan.specs.Outcome.{Outcome, IsWithinLimits, depth_after, IsFaultOf, GivesText};
-ghost use Rattle.ps_scan.specs.Outcome.Outcome.{Gives, BreaksSyntax, PassesLimit};
+ghost use Rattle.ps_scan.specs.Outcome.{ScanOutcome, IsWithinLimits, depth_after, IsFaultOf, GivesText};
+ghost use Rattle.ps_scan.specs.Outcome.ScanOutcome.{Gives, BreaksSyntax, PassesLimit};
 
 use crate::characters::{blank_front, value_of_digit};
 use crate::hex::is_hex_digit;
@@ -42,9 +43,9 @@ pub struct Scanner {
 
 impl Model for Scanner {
     ghost use Rattle.std.specs.Prelude.{◌≤◌, ◌<◌, ◌^◌, drop, vec_len};
-    ghost use Rattle.ps_scan.specs.Place.{Place};
+    ghost use Rattle.ps_scan.specs.Place.{ScannerValue};
 
-    ghost Value = { Place };
+    ghost Value = { ScannerValue };
 
     ghost view = { λ s. record { depth = s.depth; rest = drop s.at s.program.items } };
 
@@ -173,7 +174,7 @@ fn put_hex(text: &[u8], into: &mut [u8]) -> (usize, usize)
 }
 
 /// The same, told from left to right.
-#[tactic(auto, unfolding(crate::specs::Filling::hex_put, crate::specs::Filling::hex_used))]
+#[tactic(auto, unfolding(crate::specs::Code::Filling::hex_put, crate::specs::Code::Filling::hex_used))]
 fn fill_hex(text: &[u8], into: &mut [u8]) -> (usize, usize)
     ensures count { result.0 ≡ length (hex_put (length into.old) None text.now) }
     ensures bytes { into.new ≡ hex_put (length into.old) None text.now ++ drop result.0 into.old }

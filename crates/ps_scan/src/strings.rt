@@ -1,12 +1,13 @@
 //! Strings in parentheses.
-ghost use Rattle.std.specs.Prelude.{◌≡◌, ◌≤◌, ◌<◌, ◌+◌, ◌-◌, ◌*◌, ◌%◌, ◌^◌, ◌++◌, length, true, false, Option, Some, None, IfOk, IfErr, IfSome, MatchOption, drop};
+ghost use Rattle.std.specs.Prelude.{◌≡◌, ◌≤◌, ◌<◌, ◌+◌, ◌-◌, ◌*◌, ◌%◌, ◌^◌, ◌++◌, length, true, false, Option, Some};
+ghost use Rattle.std.specs.Prelude.{None, IfOk, IfErr, IfSome, MatchOption, drop};
 ghost use Rattle.ps_scan.specs.declared.strings.Inside.TheVariants.{Normal};
 ghost use Rattle.ps_scan.specs.Strings.{is_octal, escaped};
-ghost use Rattle.ps_scan.specs.Reading.{IsRefusal, read_paren};
+ghost use Rattle.ps_scan.specs.Reading.{IsScanRefusal, read_paren};
 ghost use Rattle.ps_scan.specs.Reading.Reading.{Found};
-ghost use Rattle.ps_scan.specs.StringReading.{normal, step, is_small, IsNear, walk};
+ghost use Rattle.ps_scan.specs.StringReading.{normal, step, is_small, IsNearFront, walk};
 
-use crate::token::{Bytes, FrontToken, ScanFault, TEXT_LIMIT, Token};
+use crate::token::{FrontToken, ScanFault, TEXT_LIMIT, Token, TokenBytes};
 use press_fault::Mem;
 use std::alloc::Global;
 
@@ -61,7 +62,7 @@ fn escaped_byte(c: u8) -> u8
 fn normal_byte(inner: usize, c: u8) -> Does
     requires { inner < 2 ^ 63 }
     ensures value { result ≡ normal inner c }
-    ensures near { IsNear inner result }
+    ensures near { IsNearFront inner result }
 {
     if c == b'(' {
         Does::Goes(Inside::Normal, inner + 1, b'(')
@@ -84,7 +85,7 @@ fn normal_byte(inner: usize, c: u8) -> Does
 fn escape_byte(inner: usize, c: u8) -> Does
     requires { inner < 2 ^ 63 }
     ensures value { result ≡ (step Inside.Escape inner c).does }
-    ensures near { IsNear inner result }
+    ensures near { IsNearFront inner result }
 {
     if is_octal_digit(c) {
         Does::Waits(Inside::One(c - 48), inner)
@@ -103,7 +104,7 @@ fn step_byte(inside: Inside, inner: usize, c: u8) -> (Option<u8>, Does)
     requires small { is_small inside }
     ensures first { result.0 ≡ (step inside inner c).first }
     ensures does { result.1 ≡ (step inside inner c).does }
-    ensures near { IsNear inner result.1 }
+    ensures near { IsNearFront inner result.1 }
 {
     match inside {
         Inside::Normal => (None, normal_byte(inner, c)),
@@ -186,11 +187,11 @@ fn measure(text: &[u8]) -> Option<(usize, usize)>
 
 /// The bytes that a body means.
 #[tactic(auto, unfolding(crate::specs::StringReading::walk))]
-fn bytes_of_body(alloc: Global, text: &[u8], count: usize) -> Mem<Bytes>
+fn bytes_of_body(alloc: Global, text: &[u8], count: usize) -> Mem<TokenBytes>
     requires { length text.now < 2 ^ 63 }
     ensures { IfOk result (λ bytes. bytes ≡ (walk Normal 0 text.now).bytes) }
 {
-    let mut bytes = Bytes::with_room(alloc, count)?;
+    let mut bytes = TokenBytes::with_room(alloc, count)?;
     let mut inside = Inside::Normal;
     let mut inner: usize = 0;
     for c in text {
@@ -221,7 +222,7 @@ pub(crate) fn paren_token(alloc: Global, text: &[u8]) -> FrontToken
     requires { length text.now < 2 ^ 63 }
     ensures ok { IfOk result (λ found. read_paren text.now ≡ Found found.0 found.1) }
     ensures bound { IfOk result (λ found. found.1 ≤ 1 + length text.now) }
-    ensures err { IfErr result (λ fault. IsRefusal fault (read_paren text.now)) }
+    ensures err { IfErr result (λ fault. IsScanRefusal fault (read_paren text.now)) }
 {
     match measure(text) {
         None => Err(ScanFault::Syntax),

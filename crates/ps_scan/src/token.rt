@@ -11,11 +11,11 @@ pub const TEXT_LIMIT: usize = 65535;
 
 /// The bytes of a string.
 #[derive(Drop)]
-pub struct Bytes {
+pub struct TokenBytes {
     bytes: Vec<u8>,
 }
 
-impl Model for Bytes {
+impl Model for TokenBytes {
     ghost use Rattle.std.specs.Prelude.{List, ℕ};
 
     ghost Value = { List ℕ };
@@ -23,12 +23,12 @@ impl Model for Bytes {
     ghost view = { λ s. s.bytes.items };
 }
 
-impl Bytes {
+impl TokenBytes {
     /// No bytes.
     pub fn new(alloc: Global) -> Self
         ensures { result ≡ [] }
     {
-        Bytes {
+        TokenBytes {
             bytes: Vec::new(alloc),
         }
     }
@@ -37,7 +37,7 @@ impl Bytes {
     pub(crate) fn with_room(alloc: Global, room: usize) -> Mem<Self>
         ensures { IfOk result (λ bytes. bytes ≡ []) }
     {
-        Ok(Bytes {
+        Ok(TokenBytes {
             bytes: Vec::with_capacity(alloc, room)?,
         })
     }
@@ -62,7 +62,7 @@ impl Bytes {
     pub fn into_vec(self) -> Vec<u8>
         ensures { result.items ≡ self }
     {
-        let Bytes { bytes } = self;
+        let TokenBytes { bytes } = self;
         bytes
     }
 }
@@ -81,7 +81,7 @@ pub enum Token {
     /// `//name`, a name that is looked up at once.
     Now(Name),
     /// A string in `( )` or `< >`: the bytes that it stands for.
-    Text(Bytes),
+    Text(TokenBytes),
     /// `{`.
     Open,
     /// `}`.

@@ -1,7 +1,8 @@
 //! Numbers and names.
 ghost use Rattle.std.specs.Prelude.{◌≡◌, ◌≤◌, ◌+◌, drop, length, IfOk, IfErr};
 ghost use Rattle.ps_scan.specs.Characters.{white_after};
-ghost use Rattle.ps_scan.specs.Reading.{IsRefusal, number, word, read_word, read_literal, read_now, read_slash, named};
+ghost use Rattle.ps_scan.specs.Reading.{IsScanRefusal, number, word, read_word, read_literal, read_now, read_slash};
+ghost use Rattle.ps_scan.specs.Reading.{named};
 ghost use Rattle.ps_scan.specs.Reading.Reading.{Found};
 ghost use Rattle.ps_scan.specs.declared.token.Token.TheVariants.{Exec, Literal, Now};
 
@@ -26,7 +27,7 @@ fn number_token(numeral: Numeral, run: &[u8], text: &[u8]) -> FrontToken
     requires within { length run.now ≤ length text.now }
     ensures ok { IfOk result (λ found. number numeral run.now text.now ≡ Found found.0 found.1) }
     ensures bound { IfOk result (λ found. found.1 ≤ length text.now) }
-    ensures err { IfErr result (λ fault. IsRefusal fault (number numeral run.now text.now)) }
+    ensures err { IfErr result (λ fault. IsScanRefusal fault (number numeral run.now text.now)) }
 {
     match numeral {
         Numeral::Whole(value) => Ok((Token::Int(value), with_white(run.len(), text))),
@@ -43,7 +44,7 @@ fn exec_token(run: &[u8], text: &[u8]) -> FrontToken
         named Exec run.now (length run.now) text.now ≡ Found found.0 found.1) }
     ensures bound { IfOk result (λ found. found.1 ≤ length text.now) }
     ensures err { IfErr result (λ fault.
-        IsRefusal fault (named Exec run.now (length run.now) text.now)) }
+        IsScanRefusal fault (named Exec run.now (length run.now) text.now)) }
 {
     match Name::of(run) {
         Some(name) => Ok((Token::Exec(name), with_white(run.len(), text))),
@@ -57,7 +58,7 @@ fn run_token(run: &[u8], text: &[u8]) -> FrontToken
     requires within { length run.now ≤ length text.now }
     ensures ok { IfOk result (λ found. word run.now text.now ≡ Found found.0 found.1) }
     ensures bound { IfOk result (λ found. found.1 ≤ length text.now) }
-    ensures err { IfErr result (λ fault. IsRefusal fault (word run.now text.now)) }
+    ensures err { IfErr result (λ fault. IsScanRefusal fault (word run.now text.now)) }
 {
     match numeral_in(run) {
         Some(numeral) => number_token(numeral, run, text),
@@ -70,7 +71,7 @@ fn run_token(run: &[u8], text: &[u8]) -> FrontToken
 pub(crate) fn word_token(text: &[u8]) -> FrontToken
     ensures ok { IfOk result (λ found. read_word text.now ≡ Found found.0 found.1) }
     ensures bound { IfOk result (λ found. found.1 ≤ length text.now) }
-    ensures err { IfErr result (λ fault. IsRefusal fault (read_word text.now)) }
+    ensures err { IfErr result (λ fault. IsScanRefusal fault (read_word text.now)) }
 {
     let (run, _) = text.split_at(regular_len(text));
     run_token(run, text)
@@ -82,7 +83,7 @@ fn literal_token(text: &[u8]) -> FrontToken
     requires { 1 ≤ length text.now }
     ensures ok { IfOk result (λ found. read_literal text.now ≡ Found found.0 found.1) }
     ensures bound { IfOk result (λ found. found.1 ≤ length text.now) }
-    ensures err { IfErr result (λ fault. IsRefusal fault (read_literal text.now)) }
+    ensures err { IfErr result (λ fault. IsScanRefusal fault (read_literal text.now)) }
 {
     let (_, rest) = text.split_at(1);
     let len = regular_len(rest);
@@ -99,7 +100,7 @@ fn now_token(text: &[u8]) -> FrontToken
     requires { 2 ≤ length text.now }
     ensures ok { IfOk result (λ found. read_now text.now ≡ Found found.0 found.1) }
     ensures bound { IfOk result (λ found. found.1 ≤ length text.now) }
-    ensures err { IfErr result (λ fault. IsRefusal fault (read_now text.now)) }
+    ensures err { IfErr result (λ fault. IsScanRefusal fault (read_now text.now)) }
 {
     let (_, rest) = text.split_at(2);
     let len = regular_len(rest);
@@ -116,7 +117,7 @@ pub(crate) fn slash_token(rest: &[u8], text: &[u8]) -> FrontToken
     requires { length rest.now + 1 ≡ length text.now }
     ensures ok { IfOk result (λ found. read_slash rest.now text.now ≡ Found found.0 found.1) }
     ensures bound { IfOk result (λ found. found.1 ≤ length text.now) }
-    ensures err { IfErr result (λ fault. IsRefusal fault (read_slash rest.now text.now)) }
+    ensures err { IfErr result (λ fault. IsScanRefusal fault (read_slash rest.now text.now)) }
 {
     match rest {
         [] => literal_token(text),

@@ -11,21 +11,25 @@ use Rattle.std.specs.Bool.{beq}
 use Rattle.press_fault.specs.declared.names.PsName.{PsName}
 use Rattle.press_fault.specs.declared.names.PsName.TheVariants.{TypeCheck}
 use Rattle.ps_store.specs.declared.obj.Obj.{Obj}
-use Rattle.ps_store.specs.declared.obj.Obj.TheVariants.{Null, Mark, Bool as Truth, Int, Real, Name, Text, Array, Dict, Oper as Operator, File}
-use Rattle.ps_store.specs.declared.obj.Span.{Span}
+use Rattle.ps_store.specs.declared.obj.Obj.TheVariants.{Null, Mark, Bool as Truth, Int, Real, Name, Text, Array, Dict}
+use Rattle.ps_store.specs.declared.obj.Obj.TheVariants.{Oper as Operator, File}
+use Rattle.ps_store.specs.declared.obj.Part.{Part}
 use Rattle.ps_store.specs.declared.oper.Oper.{Oper}
 use Rattle.ps_store.specs.Operators.{number_of}
-use Rattle.ps_store.specs.Store.{Kept, bytes_of}
+use Rattle.ps_store.specs.Store.{StoreValue, bytes_of}
 use Rattle.ps_store.specs.Numbers.{raw_of_whole}
 
--- the same places of the same composite
-abbrev pub same_part : Span → Span → Bool
+-- whether two parts are the same places of the same composite
+abbrev pub same_part : Part → Part → Bool
 same_part a b = a.id == b.id && (a.start == b.start && a.len == b.len)
 
+-- whether two operators are one
 unfoldable pub same_operator : Oper → Oper → Bool
 same_operator a b = number_of a == number_of b
 
-unfoldable pub equal : Kept → Obj → Obj → Bool
+-- whether two objects are equal, whatever their marks: numbers and booleans by value, names and strings by their bytes,
+-- arrays by their part, dictionaries and operators by identity, null, marks and the file always, and other kinds never
+unfoldable pub equal : StoreValue → Obj → Obj → Bool
 equal s (Int a) (Int b) = int_eq a b
 equal s (Int a) (Real b) = int_eq (raw_of_whole a) b
 equal s (Real a) (Int b) = int_eq a (raw_of_whole b)
@@ -43,14 +47,17 @@ equal s Mark Mark = true
 equal s File File = true
 equal s a b = false
 
-abbrev pub eq_value : Kept → Obj → Obj → Result Obj PsName
+-- whether two objects are equal, as a boolean
+abbrev pub eq_value : StoreValue → Obj → Obj → Result Obj PsName
 eq_value s a b = Ok (Truth (equal s a b))
 
-abbrev pub ne_value : Kept → Obj → Obj → Result Obj PsName
+-- whether two objects aren't equal, as a boolean
+abbrev pub ne_value : StoreValue → Obj → Obj → Result Obj PsName
 ne_value s a b = Ok (Truth (not (equal s a b)))
 
--- the order of two numbers by value, or of two strings by the first bytes that differ
-unfoldable pub order_of : Kept → Obj → Obj → Result Ordering PsName
+-- the order of two numbers by value, or of two strings by the first bytes that differ, else by length; all other
+-- objects are typecheck
+unfoldable pub order_of : StoreValue → Obj → Obj → Result Ordering PsName
 order_of s (Text a) (Text b) = Ok (slice_cmp nat_cmp (bytes_of s a) (bytes_of s b))
 order_of s (Int a) (Int b) = Ok (int_cmp a b)
 order_of s (Int a) (Real b) = Ok (int_cmp (raw_of_whole a) b)
@@ -58,19 +65,23 @@ order_of s (Real a) (Int b) = Ok (int_cmp a (raw_of_whole b))
 order_of s (Real a) (Real b) = Ok (int_cmp a b)
 order_of s a b = Err TypeCheck
 
--- a test of an order
+-- a test of an order, as a boolean
 abbrev pub tested : (Ordering → Bool) → Result Ordering PsName → Result Obj PsName
 tested test (Ok order) = Ok (Truth (test order))
 tested test (Err name) = Err name
 
-abbrev pub gt_value : Kept → Obj → Obj → Result Obj PsName
+-- whether the lower operand is greater than the one on top, as a boolean
+abbrev pub gt_value : StoreValue → Obj → Obj → Result Obj PsName
 gt_value s a b = tested is_gt (order_of s a b)
 
-abbrev pub ge_value : Kept → Obj → Obj → Result Obj PsName
+-- whether the lower operand is at least the one on top, as a boolean
+abbrev pub ge_value : StoreValue → Obj → Obj → Result Obj PsName
 ge_value s a b = tested is_ge (order_of s a b)
 
-abbrev pub lt_value : Kept → Obj → Obj → Result Obj PsName
+-- whether the lower operand is less than the one on top, as a boolean
+abbrev pub lt_value : StoreValue → Obj → Obj → Result Obj PsName
 lt_value s a b = tested is_lt (order_of s a b)
 
-abbrev pub le_value : Kept → Obj → Obj → Result Obj PsName
+-- whether the lower operand is at most the one on top, as a boolean
+abbrev pub le_value : StoreValue → Obj → Obj → Result Obj PsName
 le_value s a b = tested is_le (order_of s a b)

@@ -9,7 +9,7 @@ use Rattle.ps_store.specs.Numbers.{raw_of_whole}
 use Rattle.ps_stack_ops.specs.declared.numbers.Pair.{Pair}
 use Rattle.ps_stack_ops.specs.declared.numbers.Pair.TheVariants.{Wholes, Fixes}
 
--- two numbers: two integers, or else two real numbers
+-- two numbers as two integers where both are, or else as two reals; none where one is no number
 abbrev pub pair_of : Obj → Obj → Option Pair
 pair_of (Int a) (Int b) = Some (Wholes a b)
 pair_of (Int a) (Real b) = Some (Fixes (raw_of_whole a) b)
@@ -17,17 +17,17 @@ pair_of (Real a) (Int b) = Some (Fixes a (raw_of_whole b))
 pair_of (Real a) (Real b) = Some (Fixes a b)
 pair_of a b = None
 
--- an integer, where there is one in range
+-- an integer in range, else undefinedresult
 abbrev pub integer : Option ℤ → Result Obj PsName
 integer (Some n) = Ok (Int n)
 integer None = Err UndefinedResult
 
--- a real number, where there is one in range
+-- a real number in range, else undefinedresult
 abbrev pub real : Option ℤ → Result Obj PsName
 real (Some x) = Ok (Real x)
 real None = Err UndefinedResult
 
--- a value that is an integer exactly where both operands are
+-- a value that is an integer exactly where both operands are, else a real; typecheck where one is no number
 abbrev pub of_pair : (ℤ → ℤ → Option ℤ) → (ℤ → ℤ → Option ℤ) → Option Pair → Result Obj PsName
 of_pair wholes fixes (Some (Wholes a b)) = integer (wholes a b)
 of_pair wholes fixes (Some (Fixes a b)) = real (fixes a b)

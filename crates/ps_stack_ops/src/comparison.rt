@@ -6,7 +6,7 @@ ghost use Rattle.ps_stack_ops.specs.Comparison.{equal, order_of, same_part, same
 use crate::rows::TwoOperands;
 use press_fault::PsName;
 use press_nums::{Fix, Wide};
-use ps_store::{Obj, Oper, Span, Store};
+use ps_store::{Obj, Oper, Part, Store};
 use std::cmp::Ordering;
 
 /// Whether two objects are equal.
@@ -129,7 +129,7 @@ fn is_same(a: Wide, b: Wide) -> bool
     !a.is_below(b) && !b.is_below(a)
 }
 
-fn is_same_part(a: &Span, b: &Span) -> bool
+fn is_same_part(a: &Part, b: &Part) -> bool
     ensures { result ≡ same_part a.now b.now }
 {
     a.id == b.id && (a.start == b.start && a.len == b.len)

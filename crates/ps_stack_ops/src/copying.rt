@@ -6,7 +6,7 @@ ghost use Rattle.ps_stack_ops.specs.Rows.{copied, front_of, entries_copied, copy
 
 use press_fault::{Grow, PsName};
 use press_nums::Whole;
-use ps_store::{MAX_OPERANDS, Obj, OpFault, SYSTEMDICT, Span, Stack, Store};
+use ps_store::{MAX_OPERANDS, Obj, OpFault, Part, SYSTEMDICT, Stack, Store};
 
 /// Copies operands by their number, or the items of one composite into another of its kind.
 #[tactic(auto, using(crate::proofs::Lifted::lifted, crate::proofs::Lifted::told))]
@@ -47,7 +47,7 @@ pub(crate) fn copy(stack: &mut Stack, store: &mut Store) -> Result<(), OpFault>
 
 /// Copies the items of a part of a string or an array to the first places of another, and gives
 /// these places.
-fn fill(store: &mut Store, from: Span, to: Span) -> Result<Span, OpFault>
+fn fill(store: &mut Store, from: Part, to: Part) -> Result<Part, OpFault>
     ensures ok { IfOk result
         (λ part. (from.len ≤ to.len)
         × ((part ≡ front_of to from.len) × (store.new ≡ copied_part store.old from to))) }
@@ -58,7 +58,7 @@ fn fill(store: &mut Store, from: Span, to: Span) -> Result<Span, OpFault>
         return Err(OpFault::Ps(PsName::RangeCheck));
     }
     store.copy_part(from, to);
-    Ok(Span {
+    Ok(Part {
         id: to.id,
         start: to.start,
         len: from.len,

@@ -11,10 +11,6 @@ mod copying;
 mod logic;
 mod manipulation;
 mod numbers;
-#[cfg(test)]
-mod programs;
 mod rows;
-#[cfg(test)]
-mod tests;
 
 pub use rows::run_stack;

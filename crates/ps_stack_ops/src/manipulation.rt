@@ -1,7 +1,8 @@
 //! Operators that only move operands (PostScript Language Reference, third edition, 8.2).
 ghost use Rattle.std.specs.Prelude.{◌≡◌, ◌≢◌, ◌∷◌, [], ◌<◌, ◌≤◌, drop, length, unsigned_abs, Err, IfSome};
 ghost use Rattle.ps_store.specs.Outcome.{Answers, pushed, Goes};
-ghost use Rattle.ps_stack_ops.specs.Rows.{pop_row, exch_row, dup_row, count_row, index_row, roll_row, cleartomark_row, counttomark_row};
+ghost use Rattle.ps_stack_ops.specs.Rows.{pop_row, exch_row, dup_row, count_row, index_row, roll_row, cleartomark_row};
+ghost use Rattle.ps_stack_ops.specs.Rows.{counttomark_row};
 
 use press_fault::{PsName, StackOverflow};
 use press_nums::Whole;

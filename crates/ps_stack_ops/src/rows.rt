@@ -89,9 +89,9 @@ pub(crate) trait TwoOperands {
     ghost use Rattle.std.specs.Prelude.{◌≡◌, Result};
     ghost use Rattle.press_fault.specs.declared.names.PsName.{PsName};
     ghost use Rattle.ps_store.specs.declared.obj.Obj.{Obj};
-    ghost use Rattle.ps_store.specs.Store.{Kept};
+    ghost use Rattle.ps_store.specs.Store.{StoreValue};
 
-    ghost value: { Kept → Obj → Obj → Result Obj PsName };
+    ghost value: { StoreValue → Obj → Obj → Result Obj PsName };
 
     fn value(store: &Store, a: &Obj, b: &Obj) -> Result<Obj, PsName>
         ensures { result ≡ value store.now a.now b.now };

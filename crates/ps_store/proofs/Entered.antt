@@ -1,5 +1,6 @@
 -- Entries that more were defined in.
-use Rattle.std.proofs.Common.{◌≡◌, ◌≤◌, ◌<◌, ◌+◌, ℕ, suc, Bool, true, false, cond, List, [], ◌∷◌, length, drop, Option, Some, None, sym, ap, ◌∙◌, refl, arith}
+use Rattle.std.proofs.Common.{◌≡◌, ◌≤◌, ◌<◌, ◌+◌, ℕ, suc, Bool, true, false, cond, List, [], ◌∷◌, length, drop, Option}
+use Rattle.std.proofs.Common.{Some, None, sym, ap, ◌∙◌, refl, arith}
 use Rattle.std.specs.Prelude.{count_by, not, slice_get, IsNone}
 use Rattle.std.specs.Map.{lookup}
 use Rattle.std.specs.Option.{is_some}
@@ -18,35 +19,46 @@ use Rattle.ps_store.specs.Copying.{lacks}
 abbrev one : Bool → ℕ
 one b = cond b 1 0
 
+-- a truth value as a byte is one for true
 pub byte_one : (b : Bool) → bool_byte b ≡ one b
 byte_one true = refl
 byte_one false = refl
 
+-- one for a new key is at most 1
 pub at_most : (b : Bool) → one b ≤ 1
 at_most true = omega arith
 at_most false = omega arith
 
 -- an entry more, where the key is new
-length_entered : (es : List (Key × Obj)) (e : Key × Obj) → length (insert_entry same_key es e.0 e.1) ≡ length es + one (lacks es e)
+length_entered : (es : List (Key × Obj)) (e : Key × Obj) →
+    length (insert_entry same_key es e.0 e.1) ≡ length es + one (lacks es e)
 length_entered [] e = refl
 length_entered (d ∷ es) e =
-    elim (same_key e.0 d.0) as (λ b. length (cond b ((d.0, e.1) ∷ es) (d ∷ insert_entry same_key es e.0 e.1)) ≡ suc (length es) + one (not (is_some (cond b (Some d.1) (lookup (same_key e.0) es)))))
+    elim (same_key e.0 d.0) as (λ b. length (cond b ((d.0, e.1) ∷ es) (d ∷ insert_entry same_key es e.0 e.1))
+    ≡ suc (length es) + one (not (is_some (cond b (Some d.1) (lookup (same_key e.0) es)))))
     [ true ↦ omega arith | false ↦ let more = length_entered es e in omega (arith, more) ]
 
 -- what the old entries have, the new ones have
-at_most_one : (b : Bool) (x : Option Obj) (y : Option Obj) → one (not (is_some x)) ≤ one (not (is_some y)) → (v w : Obj) → one (not (is_some (cond b (Some v) x))) ≤ one (not (is_some (cond b (Some w) y)))
+at_most_one : (b : Bool) (x : Option Obj) (y : Option Obj) → one (not (is_some x)) ≤ one (not (is_some y)) →
+    (v w : Obj) → one (not (is_some (cond b (Some v) x))) ≤ one (not (is_some (cond b (Some w) y)))
 at_most_one true x y h v w = omega arith
 at_most_one false x y h v w = h
 
-lacks_less : (es : List (Key × Obj)) (e d : Key × Obj) → one (lacks (insert_entry same_key es e.0 e.1) d) ≤ one (lacks es d)
-lacks_less [] e d = elim (same_key d.0 e.0) as (λ b. one (not (is_some (cond b (Some e.1) None))) ≤ 1) [ true ↦ omega arith | false ↦ omega arith ]
+lacks_less : (es : List (Key × Obj)) (e d : Key × Obj) →
+    one (lacks (insert_entry same_key es e.0 e.1) d) ≤ one (lacks es d)
+lacks_less [] e d = elim (same_key d.0 e.0) as
+    (λ b. one (not (is_some (cond b (Some e.1) None))) ≤ 1) [ true ↦ omega arith | false ↦ omega arith ]
 lacks_less (f ∷ es) e d =
-    elim (same_key e.0 f.0) as (λ b. one (lacks (cond b ((f.0, e.1) ∷ es) (f ∷ insert_entry same_key es e.0 e.1)) d) ≤ one (not (is_some (cond (same_key d.0 f.0) (Some f.1) (lookup (same_key d.0) es))))) [
-      | true ↦ at_most_one (same_key d.0 f.0) (lookup (same_key d.0) es) (lookup (same_key d.0) es) (omega arith) e.1 f.1
-      | false ↦ at_most_one (same_key d.0 f.0) (lookup (same_key d.0) (insert_entry same_key es e.0 e.1)) (lookup (same_key d.0) es) (lacks_less es e d) f.1 f.1
+    elim (same_key e.0 f.0) as (λ b. one (lacks (cond b ((f.0, e.1) ∷ es) (f ∷ insert_entry same_key es e.0 e.1)) d)
+    ≤ one (not (is_some (cond (same_key d.0 f.0) (Some f.1) (lookup (same_key d.0) es))))) [
+      | true ↦ at_most_one (same_key d.0 f.0) (lookup (same_key d.0) es) (lookup (same_key d.0) es)
+          (omega arith) e.1 f.1
+      | false ↦ at_most_one (same_key d.0 f.0) (lookup (same_key d.0) (insert_entry same_key es e.0 e.1))
+          (lookup (same_key d.0) es) (lacks_less es e d) f.1 f.1
     ]
 
-count_less : (es : List (Key × Obj)) (e : Key × Obj) (more : List (Key × Obj)) → count_by (lacks (insert_entry same_key es e.0 e.1)) more ≤ count_by (lacks es) more
+count_less : (es : List (Key × Obj)) (e : Key × Obj) (more : List (Key × Obj)) →
+    count_by (lacks (insert_entry same_key es e.0 e.1)) more ≤ count_by (lacks es) more
 count_less es e [] = omega arith
 count_less es e (d ∷ more) =
     let first = lacks_less es e d in
@@ -57,22 +69,33 @@ count_less es e (d ∷ more) =
 
 -- the entry at a place comes next
 next_entry : (xs : List (Key × Obj)) (i : ℕ) (e : Key × Obj) → slice_get xs i ≡ Some e → drop i xs ≡ e ∷ drop (i + 1) xs
-next_entry xs i e is = drop_more xs i e (slice_get_within xs i e is) ∙ ap (λ d. d ∷ drop (i + 1) xs) (get_or_from_slice_get xs i e e is)
+next_entry xs i e is = drop_more xs i e (slice_get_within xs i e is)
+    ∙ ap (λ d. d ∷ drop (i + 1) xs) (get_or_from_slice_get xs i e e is)
 
 -- the count with the entry at a place apart
-count_next : (es xs : List (Key × Obj)) (i : ℕ) (e : Key × Obj) → slice_get xs i ≡ Some e → count_by (lacks es) (drop i xs) ≡ one (lacks es e) + count_by (lacks es) (drop (i + 1) xs)
-count_next es xs i e is = ap (count_by (lacks es)) (next_entry xs i e is) ∙ sum_by-cons (λ x. one (lacks es x)) e (drop (i + 1) xs)
+count_next : (es xs : List (Key × Obj)) (i : ℕ) (e : Key × Obj) → slice_get xs i ≡ Some e →
+    count_by (lacks es) (drop i xs) ≡ one (lacks es e) + count_by (lacks es) (drop (i + 1) xs)
+count_next es xs i e is = ap (count_by (lacks es)) (next_entry xs i e is)
+    ∙ sum_by-cons (λ x. one (lacks es x)) e (drop (i + 1) xs)
 
-pub counted_more : (es xs : List (Key × Obj)) (i n total : ℕ) (e : Key × Obj) → slice_get xs i ≡ Some e → n + count_by (lacks es) (drop i xs) ≡ total → n + one (lacks es e) + count_by (lacks es) (drop (i + 1) xs) ≡ total
+-- one entry more is counted where its key is new
+pub counted_more : (es xs : List (Key × Obj)) (i n total : ℕ) (e : Key × Obj) → slice_get xs i ≡ Some e →
+    n + count_by (lacks es) (drop i xs) ≡ total → n + one (lacks es e) + count_by (lacks es) (drop (i + 1) xs) ≡ total
 counted_more es xs i n total e is held =
     let next = count_next es xs i e is in
     omega (arith, held, next)
 
-pub entered_more : (es xs : List (Key × Obj)) (i : ℕ) (e : Key × Obj) (all : List (Key × Obj)) → slice_get xs i ≡ Some e → insert_all same_key es (drop i xs) ≡ all → insert_all same_key (insert_entry same_key es e.0 e.1) (drop (i + 1) xs) ≡ all
+-- one entry more is entered, and the rest in their turn
+pub entered_more : (es xs : List (Key × Obj)) (i : ℕ) (e : Key × Obj) (all : List (Key × Obj)) →
+    slice_get xs i ≡ Some e → insert_all same_key es (drop i xs) ≡ all →
+    insert_all same_key (insert_entry same_key es e.0 e.1) (drop (i + 1) xs) ≡ all
 entered_more es xs i e all is held = sym (ap (insert_all same_key es) (next_entry xs i e is)) ∙ held
 
-pub room_left : (es xs : List (Key × Obj)) (i : ℕ) (e : Key × Obj) → slice_get xs i ≡ Some e → length es + count_by (lacks es) (drop i xs) ≤ 65535
-    → length (insert_entry same_key es e.0 e.1) + count_by (lacks (insert_entry same_key es e.0 e.1)) (drop (i + 1) xs) ≤ 65535
+-- room for all new keys leaves room for those behind the next entry
+pub room_left : (es xs : List (Key × Obj)) (i : ℕ) (e : Key × Obj) → slice_get xs i ≡ Some e →
+    length es + count_by (lacks es) (drop i xs) ≤ 65535
+    → length (insert_entry same_key es e.0 e.1) + count_by (lacks (insert_entry same_key es e.0 e.1)) (drop (i + 1) xs)
+    ≤ 65535
 room_left es xs i e is held =
     let next = count_next es xs i e is in
     let longer = length_entered es e in
@@ -83,7 +106,9 @@ none_is_one : (o : Option Obj) → IsNone o → one (not (is_some o)) ≡ 1
 none_is_one None h = refl
 none_is_one (Some x) h = absurd (false≢true (sym h))
 
-pub room_for : (es xs : List (Key × Obj)) (i : ℕ) (e : Key × Obj) → slice_get xs i ≡ Some e → length es + count_by (lacks es) (drop i xs) ≤ 65535 → IsNone (lookup (same_key e.0) es) → length es < 65535
+-- room for all new keys is room for the next one, where it is new
+pub room_for : (es xs : List (Key × Obj)) (i : ℕ) (e : Key × Obj) → slice_get xs i ≡ Some e →
+    length es + count_by (lacks es) (drop i xs) ≤ 65535 → IsNone (lookup (same_key e.0) es) → length es < 65535
 room_for es xs i e is held missing =
     let next = count_next es xs i e is in
     let here = none_is_one (lookup (same_key e.0) es) missing in

@@ -8,14 +8,15 @@ use Rattle.ps_store.specs.declared.key.KeyFault.{KeyFault}
 use Rattle.ps_store.specs.declared.key.KeyFault.TheVariants.{NotAKey, TooLong}
 use Rattle.ps_store.specs.declared.obj.Obj.{Obj}
 use Rattle.ps_store.specs.declared.obj.Obj.TheVariants.{Name, Int, Real, Bool as Boolean, Text}
-use Rattle.ps_store.specs.Store.{Kept, bytes_of}
+use Rattle.ps_store.specs.Store.{StoreValue, bytes_of}
 
--- the name of a string's bytes
+-- the key that a string's bytes are, at most 127 of them, else too long
 abbrev pub name_key : List ℕ → Result Key KeyFault
 name_key bytes = if nat_le (length bytes) 127 then Ok (Named bytes) else Err TooLong
 
--- the key that an object is
-abbrev pub key_of : Kept → Obj → Result Key KeyFault
+-- the key that an object is: a name, a number, a boolean, or a string of at most 127 bytes as a name; else why it is
+-- none
+abbrev pub key_of : StoreValue → Obj → Result Key KeyFault
 key_of s (Name name executable) = Ok (Named name)
 key_of s (Int n) = Ok (Integer n)
 key_of s (Real raw) = Ok (RealKey raw)

@@ -16,6 +16,7 @@ use Rattle.ps_store.specs.declared.oper.PageOp.TheVariants as OnPage
 use Rattle.ps_store.specs.declared.oper.Oper.{Oper}
 use Rattle.ps_store.specs.declared.oper.Oper.TheVariants.{Stack, Data, Flow, Gfx, Page}
 
+-- the number of an operator on the operands: 0 to 40
 abbrev pub stack_number_of : StackOp → ℕ
 stack_number_of OnStack.Pop = 0
 stack_number_of OnStack.Exch = 1
@@ -59,6 +60,7 @@ stack_number_of OnStack.Xor = 38
 stack_number_of OnStack.Not = 39
 stack_number_of OnStack.Bitshift = 40
 
+-- the number of an operator on values and composites, or input: 41 to 69, 82 to 84
 abbrev pub data_number_of : DataOp → ℕ
 data_number_of OnData.True = 41
 data_number_of OnData.False = 42
@@ -93,6 +95,7 @@ data_number_of OnData.Currentfile = 82
 data_number_of OnData.Readstring = 83
 data_number_of OnData.Readhexstring = 84
 
+-- the number of a control operator: 70 to 79, 81
 abbrev pub flow_number_of : FlowOp → ℕ
 flow_number_of OnFlow.Exec = 70
 flow_number_of OnFlow.If = 71
@@ -106,6 +109,7 @@ flow_number_of OnFlow.Stop = 78
 flow_number_of OnFlow.Stopped = 79
 flow_number_of OnFlow.Bind = 81
 
+-- the number of a graphics operator: 85 to 98, 101 to 130, 135, 136
 abbrev pub gfx_number_of : GfxOp → ℕ
 gfx_number_of OnGfx.Gsave = 85
 gfx_number_of OnGfx.Grestore = 86
@@ -154,11 +158,12 @@ gfx_number_of OnGfx.Rectclip = 130
 gfx_number_of OnGfx.Erasepage = 135
 gfx_number_of OnGfx.Setpagedevice = 136
 
+-- the number of `quit` and of `showpage`: 80, 134
 abbrev pub page_number_of : PageOp → ℕ
 page_number_of OnPage.Quit = 80
 page_number_of OnPage.Showpage = 134
 
--- an operator's place in the table
+-- an operator's place, from 0, in the table of all 145
 abbrev pub number_of : Oper → ℕ
 number_of (Stack op) = stack_number_of op
 number_of (Data op) = data_number_of op
@@ -166,6 +171,7 @@ number_of (Flow op) = flow_number_of op
 number_of (Gfx op) = gfx_number_of op
 number_of (Page op) = page_number_of op
 
+-- the name of an operator on the operands
 abbrev pub stack_name_of : StackOp → List ℕ
 stack_name_of OnStack.Pop = codes "pop"
 stack_name_of OnStack.Exch = codes "exch"
@@ -209,6 +215,7 @@ stack_name_of OnStack.Xor = codes "xor"
 stack_name_of OnStack.Not = codes "not"
 stack_name_of OnStack.Bitshift = codes "bitshift"
 
+-- the name of an operator on values and composites, or input
 abbrev pub data_name_of : DataOp → List ℕ
 data_name_of OnData.True = codes "true"
 data_name_of OnData.False = codes "false"
@@ -243,6 +250,7 @@ data_name_of OnData.Currentfile = codes "currentfile"
 data_name_of OnData.Readstring = codes "readstring"
 data_name_of OnData.Readhexstring = codes "readhexstring"
 
+-- the name of a control operator
 abbrev pub flow_name_of : FlowOp → List ℕ
 flow_name_of OnFlow.Exec = codes "exec"
 flow_name_of OnFlow.If = codes "if"
@@ -256,6 +264,7 @@ flow_name_of OnFlow.Stop = codes "stop"
 flow_name_of OnFlow.Stopped = codes "stopped"
 flow_name_of OnFlow.Bind = codes "bind"
 
+-- the name of a graphics operator
 abbrev pub gfx_name_of : GfxOp → List ℕ
 gfx_name_of OnGfx.Gsave = codes "gsave"
 gfx_name_of OnGfx.Grestore = codes "grestore"
@@ -304,6 +313,7 @@ gfx_name_of OnGfx.Rectclip = codes "rectclip"
 gfx_name_of OnGfx.Erasepage = codes "erasepage"
 gfx_name_of OnGfx.Setpagedevice = codes "setpagedevice"
 
+-- the name of `quit` and of `showpage`
 abbrev pub page_name_of : PageOp → List ℕ
 page_name_of OnPage.Quit = codes "quit"
 page_name_of OnPage.Showpage = codes "showpage"

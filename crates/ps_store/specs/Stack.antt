@@ -7,6 +7,7 @@ use Rattle.ps_store.specs.declared.obj.Obj.TheVariants.{Mark}
 abbrev pub rolled : ℕ → ℕ → List Obj → List Obj
 rolled n j operands = drop j (take n operands) ++ (take j operands ++ drop n operands)
 
+-- whether an object is a mark
 abbrev pub is_mark : Obj → Bool
 is_mark Mark = true
 is_mark o = false

@@ -11,11 +11,11 @@ use std::marker::Model;
 
 /// The bytes of a string.
 #[derive(Drop)]
-pub struct Bytes {
+pub struct StoredBytes {
     pub(crate) bytes: Vec<u8>,
 }
 
-impl Model for Bytes {
+impl Model for StoredBytes {
     ghost use Rattle.std.specs.Prelude.{List, ℕ};
 
     ghost Value = { List ℕ };
@@ -23,21 +23,21 @@ impl Model for Bytes {
     ghost view = { λ b. b.bytes.items };
 }
 
-impl Bytes {
+impl StoredBytes {
     /// So many zeros.
-    pub fn zeros(alloc: Global, len: usize) -> Mem<Bytes>
+    pub fn zeros(alloc: Global, len: usize) -> Mem<StoredBytes>
         ensures { IfOk result (λ b. b ≡ replicate len 0) }
     {
-        Ok(Bytes {
+        Ok(StoredBytes {
             bytes: vec![in alloc; 0; len]?,
         })
     }
 
     /// Copies of these bytes.
-    pub fn of(alloc: Global, bytes: &[u8]) -> Mem<Bytes>
+    pub fn of(alloc: Global, bytes: &[u8]) -> Mem<StoredBytes>
         ensures { IfOk result (λ b. b ≡ bytes.now) }
     {
-        Ok(Bytes {
+        Ok(StoredBytes {
             bytes: Vec::from_slice(alloc, bytes)?,
         })
     }

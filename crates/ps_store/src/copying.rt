@@ -1,5 +1,6 @@
 //! Copies from one composite to another.
-ghost use Rattle.std.specs.Prelude.{◌≡◌, ◌≤◌, ◌<◌, ◌+◌, ◌-◌, ◌*◌, ◌^◌, ◌++◌, ◌↔◌, length, take, drop, count_by, Some, None, OnOk, OnErr, IsErrOf, IfOk, not, slice_get};
+ghost use Rattle.std.specs.Prelude.{◌≡◌, ◌≤◌, ◌<◌, ◌+◌, ◌-◌, ◌*◌, ◌^◌, ◌++◌, ◌↔◌, length, take, drop, count_by, Some};
+ghost use Rattle.std.specs.Prelude.{None, OnOk, OnErr, IsErrOf, IfOk, not, slice_get};
 ghost use Rattle.std.specs.Option.{option_copied, is_some};
 ghost use Rattle.std.specs.Map.{lookup};
 ghost use Rattle.indexmap.specs.IndexMap.{insert_all};
@@ -7,10 +8,10 @@ ghost use Rattle.ps_store.specs.Keys.{same_key};
 ghost use Rattle.ps_store.specs.Store.{piece};
 ghost use Rattle.ps_store.specs.Copying.{placed, pasted, copied_part, lacks, extended, copied_entries};
 
-use crate::composite::Bytes;
+use crate::composite::StoredBytes;
 use crate::entries::{ENTRY_LIMIT, Entries};
 use crate::key::Key;
-use crate::obj::Span;
+use crate::obj::Part;
 use crate::store::{Composite, Store};
 use press_fault::{Grow, Mem};
 use std::mem;
@@ -19,7 +20,7 @@ impl Store {
     /// Copies the items of a part of a string or an array to the first places of another part,
     /// as they were before the first place was written (PostScript Language Reference, third
     /// edition, 8.2 copy). A part outside its composite changes nothing. It takes no memory.
-    pub fn copy_part(&mut self, from: Span, to: Span)
+    pub fn copy_part(&mut self, from: Part, to: Part)
         ensures { self.new ≡ copied_part self.old from to }
     {
         let id = to.id as usize;
@@ -31,7 +32,7 @@ impl Store {
             paste_within(&mut self.made[id], start, len, at);
             return;
         }
-        let empty = Composite::Text(Bytes {
+        let empty = Composite::Text(StoredBytes {
             bytes: Vec::new(self.alloc),
         });
         let mut target = mem::replace(&mut self.made[id], empty);

@@ -1,9 +1,10 @@
 //! Many objects at once, between strings, arrays and the operands.
-ghost use Rattle.std.specs.Prelude.{◌≡◌, ◌↔◌, [], Some, None, IsErrOf, ◌≤◌, ◌<◌, ◌+◌, ◌^◌, ◌++◌, length, reverse, take, drop, replicate, IfOk, OnErr, vec_len};
+ghost use Rattle.std.specs.Prelude.{◌≡◌, ◌↔◌, [], Some, None, IsErrOf, ◌≤◌, ◌<◌, ◌+◌, ◌^◌, ◌++◌, length, reverse, take};
+ghost use Rattle.std.specs.Prelude.{drop, replicate, IfOk, OnErr, vec_len};
 ghost use Rattle.ps_store.specs.Gathering.{elements, with_elements, integers, with_dict_of};
 
 use crate::entries::Entries;
-use crate::obj::{Obj, Span};
+use crate::obj::{Obj, Part};
 use crate::stack::Stack;
 use crate::store::{Composite, Store};
 use press_fault::{Grow, Mem};
@@ -12,7 +13,7 @@ use press_nums::Whole;
 impl Store {
     /// Puts bytes at the places of a string, in order, from its first one on.
     #[tactic(auto, unfolding(crate::specs::Gathering::with_elements))]
-    pub fn put_bytes(&mut self, span: Span, bytes: &[u8])
+    pub fn put_bytes(&mut self, span: Part, bytes: &[u8])
         requires { length bytes.now < 2 ^ 32 }
         ensures { self.new ≡ with_elements self.old span 0 (integers bytes.now) }
     {
@@ -26,7 +27,7 @@ impl Store {
     /// Puts the operands below the top `below` ones at the places of an array, so many as it
     /// has, the one pushed last at its last place.
     #[tactic(auto, unfolding(crate::specs::Gathering::with_elements))]
-    pub fn put_operands(&mut self, span: Span, stack: &Stack, below: usize)
+    pub fn put_operands(&mut self, span: Part, stack: &Stack, below: usize)
         requires { below + span.len ≤ length stack.now }
         ensures { self.new ≡ with_elements self.old span 0 (reverse (take span.len (drop below stack.now))) }
     {
@@ -75,7 +76,7 @@ impl Store {
 impl Stack {
     /// Pushes the elements of an array, in order. The caller asks for the room.
     #[tactic(auto, using(crate::proofs::Gathered::pushed_more))]
-    pub fn push_elements(&mut self, store: &Store, span: Span)
+    pub fn push_elements(&mut self, store: &Store, span: Part)
         requires { length self.old + span.len ≤ 500 }
         ensures pushed { self.new ≡ reverse (elements store.now span) ++ self.old }
         ensures len { length self.new ≡ length self.old + span.len }

@@ -19,13 +19,13 @@ mod stack;
 mod store;
 mod turning;
 
-pub use composite::{Bytes, Elements};
+pub use composite::{Elements, StoredBytes};
 pub use dicts::{Dicts, SYSTEMDICT, USERDICT};
 pub use entries::{ENTRY_LIMIT, Entries};
 pub use fault::OpFault;
 pub use key::{Key, KeyFault};
 pub use numbers::{byte_in, number, place_in};
-pub use obj::{Obj, Span};
+pub use obj::{Obj, Part};
 pub use oper::{DataOp, FlowOp, GfxOp, Oper, PageOp, StackOp};
 pub use stack::{MAX_OPERANDS, Stack};
 pub use store::{Composite, Store};

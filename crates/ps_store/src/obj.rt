@@ -6,17 +6,17 @@ use std::marker::Model;
 
 /// A part of a string or an array: `len` places of the composite `id`, from `start` on.
 #[derive(Clone, Copy, Debug, PartialEq, Eq)]
-pub struct Span {
+pub struct Part {
     pub id: u32,
     pub start: u32,
     pub len: u32,
 }
 
-impl Model for Span {
+impl Model for Part {
     ghost use Rattle.std.specs.Prelude.{◌≤◌, ◌+◌};
-    ghost use Rattle.ps_store.specs.Parts.{Part};
+    ghost use Rattle.ps_store.specs.Parts.{PartValue};
 
-    ghost Value = { Part };
+    ghost Value = { PartValue };
 
     ghost view = { λ s. record { id = s.id; start = s.start; len = s.len } };
 
@@ -36,8 +36,8 @@ pub enum Obj {
     Int(Whole),
     Real(Fix),
     Name(Name, bool),
-    Text(Span),
-    Array(Span, bool),
+    Text(Part),
+    Array(Part, bool),
     Dict(u32),
     Oper(Oper),
     File,

@@ -1,6 +1,7 @@
 //! The operators, by the crate that does each, with their numbers and names.
 ghost use Rattle.std.specs.Prelude.{◌≡◌, ◌≤◌, length, map, IsTrue};
-ghost use Rattle.ps_store.specs.Operators.{number_of, name_of, stack_name_of, data_name_of, flow_name_of, gfx_name_of, page_name_of, operators_built, is_rising};
+ghost use Rattle.ps_store.specs.Operators.{number_of, name_of, stack_name_of, data_name_of, flow_name_of, gfx_name_of};
+ghost use Rattle.ps_store.specs.Operators.{page_name_of, operators_built, is_rising};
 
 /// Operators on the operands alone, and `copy`.
 #[derive(Clone, Copy, Debug, PartialEq, Eq)]
@@ -513,30 +514,5 @@ fn page_name(op: PageOp) -> &'static str
     match op {
         PageOp::Quit => "quit",
         PageOp::Showpage => "showpage",
-    }
-}
-
-#[cfg(test)]
-mod tests {
-    use super::*;
-
-    #[test]
-    fn numbers_are_places_in_the_table(rt: HostRuntime) {
-        let cases = [
-            ("pop", 0),
-            ("<<", 10),
-            ("bitshift", 40),
-            (">>", 48),
-            ("stopped", 79),
-            ("quit", 80),
-            ("readhexstring", 84),
-            ("gsave", 85),
-            ("eofill", 124),
-            ("erasepage", 135),
-        ];
-        for (name, number) in cases {
-            let named = Oper::built().iter().find(|op| op.name() == name);
-            assert_eq!(rt; named.copied().map(Oper::number), Some(number), "at {name}");
-        }
     }
 }

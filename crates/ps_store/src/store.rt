@@ -1,16 +1,21 @@
 //! The store of composites: strings, arrays and dictionaries.
 //!
 //! A read outside a composite gives null, 0 for a string, or nothing, and a write outside changes nothing.
-ghost use Rattle.std.specs.Prelude.{◌≡◌, ◌≤◌, ◌<◌, ◌+◌, ◌*◌, ◌^◌, ◌++◌, ◌∷◌, [], ◌↔◌, ℕ, true, false, length, OnOk, OnErr, IfOk, IfSome, IsErrOf, IsTrue, Some, None, replicate, slice_get, slice_index_or};
+ghost use Rattle.std.specs.Prelude.{◌≡◌, ◌≤◌, ◌<◌, ◌+◌, ◌*◌, ◌^◌, ◌++◌, ◌∷◌, [], ◌↔◌, ℕ, true, false, length, OnOk};
+ghost use Rattle.std.specs.Prelude.{OnErr, IfOk, IfSome, IsErrOf, IsTrue, Some, None, replicate, slice_get};
+ghost use Rattle.std.specs.Prelude.{slice_index_or};
 ghost use Rattle.std.specs.Option.{option_copied};
-ghost use Rattle.ps_store.specs.Store.{Kept, fits, with_new, with_composite, next_span, with_text, with_text_of, with_array, with_array_of, element, item, operator_of, object_at, object_in, bytes_of, objects_of, put_in, put_at, found, has, entries_of, entry_at, as_objects, with_dict, defined, is_new_in, is_full_of, with_entry};
+ghost use Rattle.ps_store.specs.Store.{StoreValue, fits, with_new, with_composite, next_span, with_text, with_text_of};
+ghost use Rattle.ps_store.specs.Store.{with_array, with_array_of, element, item, operator_of, object_at, object_in};
+ghost use Rattle.ps_store.specs.Store.{bytes_of, objects_of, put_in, put_at, found, has, entries_of, entry_at};
+ghost use Rattle.ps_store.specs.Store.{as_objects, with_dict, defined, is_new_in, is_full_of, with_entry};
 ghost use Rattle.ps_store.specs.KeyOf.{key_of, name_key};
 
-use crate::composite::{Bytes, Elements};
+use crate::composite::{Elements, StoredBytes};
 use crate::entries::{ENTRY_LIMIT, Entries};
 use crate::key::{Key, KeyFault};
 use crate::numbers::byte_in;
-use crate::obj::{Obj, Span};
+use crate::obj::{Obj, Part};
 use crate::oper::Oper;
 use press_fault::{Grow, Mem, Name};
 use press_nums::Whole;
@@ -20,7 +25,7 @@ use std::marker::Model;
 /// A composite: a string, an array or a dictionary.
 #[derive(Drop)]
 pub enum Composite {
-    Text(Bytes),
+    Text(StoredBytes),
     Array(Elements),
     Dict(Entries),
 }
@@ -37,9 +42,9 @@ pub struct Store {
 
 impl Model for Store {
     ghost use Rattle.std.specs.Prelude.{◌≤◌};
-    ghost use Rattle.ps_store.specs.Store.{Kept};
+    ghost use Rattle.ps_store.specs.Store.{StoreValue};
 
-    ghost Value = { Kept };
+    ghost Value = { StoreValue };
 
     ghost view = { λ s. record { made = s.made.items; units = s.units } };
 
@@ -70,7 +75,7 @@ impl Store {
 
     /// Makes a string of so many zero bytes. A refusal, by a limit or out of memory, leaves the
     /// store as it was.
-    pub fn new_text(&mut self, len: u32) -> Result<Span, Grow>
+    pub fn new_text(&mut self, len: u32) -> Result<Part, Grow>
         ensures ok { IfOk result (λ span. with_text self.old len ≡ Some (span, self.new)) }
         ensures limit { IsErrOf result Grow.LimitCheck ↔ (with_text self.old len ≡ None) }
         ensures err { OnErr result (self.new ≡ self.old) }
@@ -78,13 +83,13 @@ impl Store {
         if len > 65_535 || !self.fits(1, u64::from(len)) {
             return Err(Grow::LimitCheck);
         }
-        let bytes = Bytes::zeros(self.alloc, len as usize)?;
+        let bytes = StoredBytes::zeros(self.alloc, len as usize)?;
         Ok(self.add(Composite::Text(bytes), len, u64::from(len))?)
     }
 
     /// Makes a string of these bytes. A refusal, by a limit or out of memory, leaves the store
     /// as it was.
-    pub fn new_text_of(&mut self, bytes: &[u8]) -> Result<Span, Grow>
+    pub fn new_text_of(&mut self, bytes: &[u8]) -> Result<Part, Grow>
         ensures ok { IfOk result (λ span. with_text_of self.old bytes.now ≡ Some (span, self.new)) }
         ensures limit { IsErrOf result Grow.LimitCheck ↔ (with_text_of self.old bytes.now ≡ None) }
         ensures err { OnErr result (self.new ≡ self.old) }
@@ -93,13 +98,13 @@ impl Store {
             return Err(Grow::LimitCheck);
         }
         let len = bytes.len() as u32;
-        let bytes = Bytes::of(self.alloc, bytes)?;
+        let bytes = StoredBytes::of(self.alloc, bytes)?;
         Ok(self.add(Composite::Text(bytes), len, u64::from(len))?)
     }
 
     /// Makes an array of so many nulls. A refusal, by a limit or out of memory, leaves the
     /// store as it was.
-    pub fn new_array(&mut self, len: u32) -> Result<Span, Grow>
+    pub fn new_array(&mut self, len: u32) -> Result<Part, Grow>
         ensures ok { IfOk result (λ span. with_array self.old len ≡ Some (span, self.new)) }
         ensures limit { IsErrOf result Grow.LimitCheck ↔ (with_array self.old len ≡ None) }
         ensures err { OnErr result (self.new ≡ self.old) }
@@ -113,7 +118,7 @@ impl Store {
 
     /// Makes an array of these objects. A refusal, by a limit or out of memory, leaves the
     /// store as it was.
-    pub fn new_array_of(&mut self, items: &[Obj]) -> Result<Span, Grow>
+    pub fn new_array_of(&mut self, items: &[Obj]) -> Result<Part, Grow>
         ensures ok { IfOk result (λ span. with_array_of self.old items.now ≡ Some (span, self.new)) }
         ensures limit { IsErrOf result Grow.LimitCheck ↔ (with_array_of self.old items.now ≡ None) }
         ensures err { OnErr result (self.new ≡ self.old) }
@@ -127,7 +132,7 @@ impl Store {
     }
 
     /// Adds a composite of so many places and units, and gives the whole of it.
-    pub(crate) fn add(&mut self, c: Composite, len: u32, units: u64) -> Mem<Span>
+    pub(crate) fn add(&mut self, c: Composite, len: u32, units: u64) -> Mem<Part>
         requires short { len ≤ 65535 }
         requires room { IsTrue (fits self.old 1 units) }
         ensures ok { IfOk result (λ span. (span ≡ next_span self.old len) × (self.new ≡ with_new self.old c units)) }
@@ -136,7 +141,7 @@ impl Store {
         let id = self.made.len() as u32;
         self.made.push(c)?;
         self.units += units;
-        Ok(Span { id, start: 0, len })
+        Ok(Part { id, start: 0, len })
     }
 
     /// Makes an empty dictionary, and answers its number. A refusal, by a limit or out of
@@ -179,7 +184,7 @@ impl Store {
 
     /// The element of an array, or the byte of a string as an integer, at a place of the part,
     /// from 0. Outside the composite it is null, or 0 for a string.
-    pub fn get(&self, span: Span, at: u32) -> Obj
+    pub fn get(&self, span: Part, at: u32) -> Obj
         ensures { result ≡ element self.now span at }
     {
         let place = span.start as usize + at as usize;
@@ -190,7 +195,7 @@ impl Store {
     }
 
     /// The object that stands at a place of an array, `None` where there is none.
-    pub fn at(&self, span: Span, at: u32) -> Option<&Obj>
+    pub fn at(&self, span: Part, at: u32) -> Option<&Obj>
         ensures value { option_copied result ≡ object_at self.now span at }
         ensures element { IfSome result (λ o. o.now ≡ element self.now span at) }
     {
@@ -204,7 +209,7 @@ impl Store {
     }
 
     /// The operator that stands at a place, `None` where something else does.
-    pub fn operator_at(&self, span: Span, at: u32) -> Option<Oper>
+    pub fn operator_at(&self, span: Part, at: u32) -> Option<Oper>
         ensures { result ≡ operator_of (element self.now span at) }
     {
         let place = span.start as usize + at as usize;
@@ -215,7 +220,7 @@ impl Store {
     }
 
     /// The bytes of a part of a string. A part of something else has none.
-    pub fn bytes(&self, span: Span) -> &[u8]
+    pub fn bytes(&self, span: Part) -> &[u8]
         ensures { result.now ≡ bytes_of self.now span }
     {
         match self.made.get(span.id as usize) {
@@ -227,7 +232,7 @@ impl Store {
     }
 
     /// The objects of a part of an array. A part of something else has none.
-    pub fn objects(&self, span: Span) -> &[Obj]
+    pub fn objects(&self, span: Part) -> &[Obj]
         ensures { result.now ≡ objects_of self.now span }
     {
         match self.made.get(span.id as usize) {
@@ -240,7 +245,7 @@ impl Store {
 
     /// Puts an object into an array, or an integer from 0 to 255 as a byte into a string, at a
     /// place of the part, from 0. Outside the composite nothing changes.
-    pub fn put(&mut self, span: Span, at: u32, value: Obj)
+    pub fn put(&mut self, span: Part, at: u32, value: Obj)
         ensures { self.new ≡ put_at self.old span at value }
     {
         let id = span.id as usize;
@@ -352,7 +357,7 @@ fn put_into(c: &mut Composite, i: usize, value: Obj)
     }
 }
 
-fn put_byte(bytes: &mut Bytes, i: usize, value: &Obj)
+fn put_byte(bytes: &mut StoredBytes, i: usize, value: &Obj)
     ensures { Composite.Text bytes.new ≡ put_in (Composite.Text bytes.old) i value.now }
 {
     match value {
@@ -406,200 +411,5 @@ fn operator_in(c: &Composite, i: usize) -> Option<Oper>
         Composite::Array(items) => items.operator_at(i),
         Composite::Text(_) => None,
         Composite::Dict(_) => None,
-    }
-}
-
-#[cfg(test)]
-mod tests {
-    use super::*;
-    use press_nums::Fix;
-    use std::test::Fail;
-
-    /// What a store is asked to make room for.
-    #[derive(Clone, Copy)]
-    enum Growth {
-        Text(u32),
-        Array(u32),
-        NewEntry,
-        HeldEntry,
-    }
-
-    /// Grows a store with one dictionary of one entry, after so many units were taken.
-    fn grown(alloc: Global, units: u64, growth: Growth) -> Result<(), Grow>
-        requires { units ≤ 268435456 }
-    {
-        let mut store = Store::new(alloc);
-        let dict = store.new_dict()?;
-        store.define(dict, Key::Integer(Whole::of(1)), Obj::Null)?;
-        store.units = units;
-        match growth {
-            Growth::Text(len) => {
-                store.new_text(len)?;
-            }
-            Growth::Array(len) => {
-                store.new_array(len)?;
-            }
-            Growth::NewEntry => store.define(dict, Key::Truth(true), Obj::Null)?,
-            Growth::HeldEntry => store.define(dict, Key::Integer(Whole::of(1)), Obj::Mark)?,
-        }
-        Ok(())
-    }
-
-    #[test]
-    fn limits_stand_one_above_the_last_that_fits(rt: HostRuntime) {
-        let full = Err(Grow::LimitCheck);
-        let cases = [
-            ("the longest string", 0, Growth::Text(65_535), Ok(())),
-            ("a longer string", 0, Growth::Text(65_536), full),
-            ("the longest array", 0, Growth::Array(65_535), Ok(())),
-            ("a longer array", 0, Growth::Array(65_536), full),
-            (
-                "a byte for the last unit",
-                268_435_455,
-                Growth::Text(1),
-                Ok(()),
-            ),
-            (
-                "a byte with no unit left",
-                268_435_456,
-                Growth::Text(1),
-                full,
-            ),
-            (
-                "an empty string takes none",
-                268_435_456,
-                Growth::Text(0),
-                Ok(()),
-            ),
-            (
-                "an element of 16 units",
-                268_435_440,
-                Growth::Array(1),
-                Ok(()),
-            ),
-            (
-                "an element with 15 left",
-                268_435_441,
-                Growth::Array(1),
-                full,
-            ),
-            (
-                "an entry of 32 units",
-                268_435_424,
-                Growth::NewEntry,
-                Ok(()),
-            ),
-            ("an entry with 31 left", 268_435_425, Growth::NewEntry, full),
-            (
-                "a held key takes none",
-                268_435_456,
-                Growth::HeldEntry,
-                Ok(()),
-            ),
-        ];
-        for (name, units, growth, want) in cases {
-            assert_eq!(rt; grown(rt.alloc(), units, growth), want, "at {name}");
-        }
-    }
-
-    #[test]
-    fn a_dictionary_has_65_535_entries(rt: HostRuntime) -> Result<(), Fail> {
-        let mut store = Store::new(rt.alloc());
-        let dict = store.new_dict()?;
-        for n in 0..65_535 {
-            store.define(dict, Key::Integer(Whole::of(n)), Obj::Int(Whole::of(n)))?;
-        }
-        let refused = store.define(dict, Key::Truth(true), Obj::Null);
-        assert_eq!(rt; refused, Err(Grow::LimitCheck));
-        assert_eq!(rt; store.entries(dict), 65_535);
-        store.define(dict, Key::Integer(Whole::of(7)), Obj::Mark)?;
-        assert_eq!(rt; store.entry(dict, 7), (Obj::Int(Whole::of(7)), Obj::Mark));
-        assert!(rt; store.fits(1, 266_338_336) && !store.fits(1, 266_338_337));
-        Ok(())
-    }
-
-    #[test]
-    fn composites_have_one_numbering_and_spans_share(rt: HostRuntime) -> Result<(), Fail> {
-        let mut store = Store::new(rt.alloc());
-        let text = store.new_text_of(b"abcd")?;
-        let dict = store.new_dict()?;
-        let items = [Obj::Mark, Obj::Null];
-        let array = store.new_array_of(&items)?;
-        assert_eq!(rt; (text.id, dict, array.id), (0, 1, 2));
-        let tail = Span {
-            id: 0,
-            start: 2,
-            len: 2,
-        };
-        store.put(tail, 1, Obj::Int(Whole::of(120)));
-        assert_eq!(rt; store.bytes(text), b"abcx".as_slice());
-        store.put(array, 1, Obj::Dict(1));
-        assert_eq!(rt; store.objects(array), [Obj::Mark, Obj::Dict(1)].as_slice());
-        Ok(())
-    }
-
-    fn name_of(bytes: &[u8], is_executable: bool) -> Obj {
-        match Name::of(bytes) {
-            Some(name) => Obj::Name(name, is_executable),
-            None => Obj::Null,
-        }
-    }
-
-    fn real(raw: i64) -> Obj {
-        match Fix::of_raw(raw) {
-            Some(raw) => Obj::Real(raw),
-            None => Obj::Null,
-        }
-    }
-
-    fn whole(n: i32) -> Obj {
-        Obj::Int(Whole::of(n))
-    }
-
-    /// Defines both objects as keys of a new dictionary, and gives the number of its entries and
-    /// the first key.
-    fn keys_of(store: &mut Store, first: &Obj, second: &Obj) -> Option<(u32, Obj)> {
-        let dict = store.new_dict().ok()?;
-        for o in [first, second] {
-            let key = store.key_of(o).ok()?;
-            store.define(dict, key, Obj::Null).ok()?;
-        }
-        Some((store.entries(dict), store.entry(dict, 0).0))
-    }
-
-    #[test]
-    fn keys_are_one_by_value_and_keep_their_kind(rt: HostRuntime) -> Result<(), Fail> {
-        let mut store = Store::new(rt.alloc());
-        let a = Obj::Text(store.new_text_of(b"a")?);
-        let cases = [
-            ("1 and 1.0", whole(1), real(65_536), 1, whole(1)),
-            ("1.0 and 1", real(65_536), whole(1), 1, real(65_536)),
-            ("1 and 0.5", whole(1), real(32_768), 2, whole(1)),
-            ("1 and true", whole(1), Obj::Bool(true), 2, whole(1)),
-            ("a and (a)", name_of(b"a", true), a, 1, name_of(b"a", false)),
-            (
-                "(a) and /A",
-                a,
-                name_of(b"A", false),
-                2,
-                name_of(b"a", false),
-            ),
-        ];
-        for (name, first, second, entries, kept) in cases {
-            let keys = keys_of(&mut store, &first, &second);
-            assert_eq!(rt; keys, Some((entries, kept)), "at {name}");
-        }
-        Ok(())
-    }
-
-    #[test]
-    fn some_objects_are_no_keys(rt: HostRuntime) -> Result<(), Fail> {
-        let mut store = Store::new(rt.alloc());
-        let long = Obj::Text(store.new_text(128)?);
-        let most = Obj::Text(store.new_text(127)?);
-        assert_eq!(rt; store.key_of(&long), Err(KeyFault::TooLong));
-        assert_eq!(rt; store.key_of(&most).is_ok(), true);
-        assert_eq!(rt; store.key_of(&Obj::Null), Err(KeyFault::NotAKey));
-        Ok(())
     }
 }

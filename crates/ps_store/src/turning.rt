@@ -1,7 +1,7 @@
 //! Objects turned round in their slice, each from its old place straight to its new one.
 ghost use Rattle.std.specs.Prelude.{◌≡◌, ◌≤◌, ◌<◌, ◌++◌, ℕ, List, Bool, length, take, drop};
 ghost use Rattle.ps_store.specs.declared.obj.Obj.{Obj};
-ghost use Rattle.ps_store.specs.Turning.{IsSource, IsSettled, AreClosed, ArePartlyTurned};
+ghost use Rattle.ps_store.specs.Code.Turning.{IsSource, IsSettled, AreClosed, ArePartlyTurned};
 
 use crate::obj::Obj;
 use crate::stack::MAX_OPERANDS;
@@ -71,47 +71,4 @@ fn source(n: usize, k: usize, i: usize) -> usize
     ensures value { IsSource n k i result }
 {
     if i + k < n { i + k } else { i + k - n }
-}
-
-#[cfg(test)]
-mod tests {
-    use super::*;
-
-    /// Six objects, each standing for a letter.
-    fn objects(letters: &str) -> [Obj; 6] {
-        let mut items = [Obj::Null; 6];
-        for (item, letter) in items.iter_mut().zip(letters.bytes()) {
-            *item = Obj::Dict(u32::from(letter));
-        }
-        items
-    }
-
-    /// The letters a to f, the first `n` of them turned by `k`.
-    fn turned(n: usize, k: usize) -> [Obj; 6]
-        requires part { k ≤ n }
-        requires held { n ≤ 6 }
-    {
-        let mut items = objects("abcdef");
-        let (part, _) = items.as_mut_slice().split_at_mut(n);
-        turn(part, k);
-        items
-    }
-
-    #[test]
-    fn objects_go_round_in_one_cycle_or_more(rt: HostRuntime) {
-        let cases = [
-            ("two cycles of three", 6, 2, "cdefab"),
-            ("three cycles of two", 6, 3, "defabc"),
-            ("one cycle of five", 5, 3, "deabcf"),
-            ("two cycles of two", 4, 2, "cdabef"),
-            ("down by one", 6, 1, "bcdefa"),
-            ("up by one", 6, 5, "fabcde"),
-            ("by none", 6, 0, "abcdef"),
-            ("by a whole turn", 6, 6, "abcdef"),
-            ("none at all", 0, 0, "abcdef"),
-        ];
-        for (name, n, k, left) in cases {
-            assert_eq!(rt; turned(n, k), objects(left), "{name}");
-        }
-    }
 }

@@ -19,9 +19,11 @@ returns-in_default-key_of c =
     let place : left - 1 ≡ k + 1 = omega (arith, c.loop-left-test.true) in
     let all : left ≡ k + 2 = omega (arith, c.loop-left-test.true) in
     let first : slice_get stack (k + 1) ≡ Some c.in-Some.key.now =
-    subst (λ (n : ℕ). slice_get stack n ≡ Some c.in-Some.key.now) place (sym c.at.ensures ∙ ap option_copied c.in-Some.is) in
+    subst (λ (n : ℕ). slice_get stack n ≡ Some c.in-Some.key.now) place
+    (sym c.at.ensures ∙ ap option_copied c.in-Some.is) in
     let second : slice_get stack k ≡ Some value = sym c.at-in-loop-left.ensures ∙ ap option_copied c.in-Some-at.is in
-    let no_name : key_of s c.in-Some.key.now ≡ Err c.in_default-key_of.field-0 = sym c.key_of.ensures ∙ c.in_default-key_of.is in
+    let no_name : key_of s c.in-Some.key.now ≡ Err c.in_default-key_of.field-0 = sym c.key_of.ensures
+    ∙ c.in_default-key_of.is in
     sym (ap (λ key. and_then (with_pair entries key value) (λ more. entered s more (reverse (take k stack)))) no_name)
     ∙ (sym (ap (λ (n : ℕ). entered s entries (reverse (take n stack))) all
     ∙ pair_entered s entries stack k c.in-Some.key.now value first second)
@@ -38,7 +40,8 @@ loop-left-preserved c =
     let place : left - 1 ≡ k + 1 = omega (arith, c.loop-left-test.true) in
     let all : left ≡ k + 2 = omega (arith, c.loop-left-test.true) in
     let first : slice_get stack (k + 1) ≡ Some c.in-Some.key.now =
-    subst (λ (n : ℕ). slice_get stack n ≡ Some c.in-Some.key.now) place (sym c.at.ensures ∙ ap option_copied c.in-Some.is) in
+    subst (λ (n : ℕ). slice_get stack n ≡ Some c.in-Some.key.now) place
+    (sym c.at.ensures ∙ ap option_copied c.in-Some.is) in
     let second : slice_get stack k ≡ Some value = sym c.at-in-loop-left.ensures ∙ ap option_copied c.in-Some-at.is in
     let named : key_of s c.in-Some.key.now ≡ Ok c.in-Ok.key = sym c.key_of.ensures ∙ c.in-Ok.is in
     let more : c.define.new.self ≡ insert_entry same_key entries c.in-Ok.key value = c.in_ok-define.ensures.ok in
@@ -48,7 +51,8 @@ loop-left-preserved c =
       small = omega (arith, all, long, length_more same_key entries c.in-Ok.key value, c.loop-left.invariant.small);
       same =
           ap (λ es. entered s es (reverse (take k stack))) more
-          ∙ (sym (ap (λ key. and_then (with_pair entries key value) (λ es. entered s es (reverse (take k stack)))) named)
+          ∙ (sym (ap (λ key. and_then (with_pair entries key value) (λ es. entered s es (reverse (take k stack))))
+          named)
           ∙ (sym (ap (λ (n : ℕ). entered s entries (reverse (take n stack))) all
           ∙ pair_entered s entries stack k c.in-Some.key.now value first second)
           ∙ c.loop-left.invariant.same));

@@ -1,6 +1,6 @@
 use Rattle.std.proofs.Common.{◌≡◌, ◌+◌, ◌∙◌, Some, None, drop, ap, sym}
 use Rattle.std.specs.List.{slice_get}
-use Rattle.ps_flow.specs.BindSteps.{bound_all}
+use Rattle.ps_flow.specs.Code.BindSteps.{bound_all}
 use Rattle.ps_flow.proofs.BindLemmas.{all_more, all_enough}
 use Rattle.ps_flow.proofs.binding.bind_all.Goals as goal
 

@@ -1,5 +1,5 @@
 use Rattle.std.proofs.Common.{◌≡◌, ◌-◌, length, drop}
-use Rattle.ps_flow.specs.BindSteps.{bound_all}
+use Rattle.ps_flow.specs.Code.BindSteps.{bound_all}
 use Rattle.ps_flow.proofs.binding.bind_all.Given as goal
 
 -- what is left to be bound leads to the same store

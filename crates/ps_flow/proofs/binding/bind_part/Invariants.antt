@@ -1,5 +1,5 @@
 use Rattle.std.proofs.Common.{◌≡◌, ◌-◌}
-use Rattle.ps_flow.specs.BindSteps.{bound_from}
+use Rattle.ps_flow.specs.Code.BindSteps.{bound_from}
 use Rattle.ps_flow.proofs.binding.bind_part.Given as goal
 
 -- what is left to be bound leads to the same store

@@ -1,6 +1,6 @@
 use Rattle.std.proofs.Common.{◌+◌, ◌-◌, length}
 use Rattle.ps_flow.specs.Binding.{procedures_with}
-use Rattle.ps_flow.specs.Visits.{unvisited}
+use Rattle.ps_flow.specs.Code.Visits.{unvisited}
 use Rattle.ps_flow.proofs.VisitLemmas.{IsWorking}
 use Rattle.ps_flow.proofs.visits.reached.Given as goal
 

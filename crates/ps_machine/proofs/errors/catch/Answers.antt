@@ -25,4 +25,5 @@ loop-name-preserved c =
 pub returns : goal.returns
 returns c =
     sym c.loop-name.invariant
-    ∙ falls c.loop-name.name c.loop-name.command c.loop-name.flow c.loop-name.stack ((c.unwind.ensures.no c.loop-name-test.false).0)
+    ∙ falls c.loop-name.name c.loop-name.command c.loop-name.flow c.loop-name.stack
+    ((c.unwind.ensures.no c.loop-name-test.false).0)

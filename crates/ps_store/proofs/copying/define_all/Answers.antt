@@ -9,14 +9,19 @@ use Rattle.ps_store.proofs.Entered.{entered_more, room_left, room_for}
 use Rattle.ps_store.proofs.copying.define_all.Goals as goal
 
 pub define-requires : goal.define-requires
-define-requires c = room_for c.loop-at.target c.args.source.now c.loop-at.at (c.in-Some.key.now, c.in-Some.value.now) (sym c.in-Some.ensures) c.loop-at.invariant.1
+define-requires c = room_for c.loop-at.target c.args.source.now c.loop-at.at (c.in-Some.key.now, c.in-Some.value.now)
+    (sym c.in-Some.ensures) c.loop-at.invariant.1
 
 pub loop-at-preserved : goal.loop-at-preserved
 loop-at-preserved c =
     let is = c.in_ok-define.ensures.ok in
     let rest = drop (c.loop-at.at + 1) c.args.source.now in
-    let here : slice_get c.args.source.now c.loop-at.at ≡ Some (c.in-Some.key.now, c.in-Some.value.now) = sym c.in-Some.ensures in
+    let here : slice_get c.args.source.now c.loop-at.at ≡ Some (c.in-Some.key.now, c.in-Some.value.now) =
+    sym c.in-Some.ensures in
     let HasRoom : List (Key × Obj) → Type 0 = λ es. length es + count_by (lacks es) rest ≤ 65535 in (
-      ap (λ es. insert_all same_key es rest) is ∙ entered_more c.loop-at.target c.args.source.now c.loop-at.at (c.in-Some.key.now, c.in-Some.value.now) _ here c.loop-at.invariant.0,
-      subst HasRoom (sym is) (room_left c.loop-at.target c.args.source.now c.loop-at.at (c.in-Some.key.now, c.in-Some.value.now) here c.loop-at.invariant.1),
+      ap (λ es. insert_all same_key es rest) is
+          ∙ entered_more c.loop-at.target c.args.source.now c.loop-at.at
+          (c.in-Some.key.now, c.in-Some.value.now) _ here c.loop-at.invariant.0,
+      subst HasRoom (sym is) (room_left c.loop-at.target c.args.source.now c.loop-at.at
+          (c.in-Some.key.now, c.in-Some.value.now) here c.loop-at.invariant.1),
     )

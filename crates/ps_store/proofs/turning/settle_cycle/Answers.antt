@@ -1,5 +1,5 @@
 use Rattle.std.proofs.Common.{◌≡◌, ◌≤◌, ℕ, length, subst, ◌∙◌, arith, set, length-set}
-use Rattle.ps_store.specs.Turning.{IsSource}
+use Rattle.ps_store.specs.Code.Turning.{IsSource}
 use Rattle.ps_store.proofs.Cycles.{goes_on, next_waits, settled_still, takes, read}
 use Rattle.ps_store.proofs.turning.settle_cycle.Goals as goal
 
@@ -17,11 +17,15 @@ loop-next-preserved c =
     let long : n ≤ length settled = omega (arith, c.requires.room) in
     let wide : n ≤ length now = omega arith in
     let same : length (set now hole o) ≡ n = length-set now hole o ∙ c.loop-next.auto.items in
-    let source : IsSource n k next c.source-next-in-loop-next.result = subst (λ (m : ℕ). IsSource m k next c.source-next-in-loop-next.result) same c.source-next-in-loop-next.ensures.value in (
-      goes_on n k c.args.start hole next _ settled walk long on (omega (arith, same, c.source-next-in-loop-next.ensures.within)) source,
+    let source : IsSource n k next c.source-next-in-loop-next.result =
+    subst (λ (m : ℕ). IsSource m k next c.source-next-in-loop-next.result) same
+    c.source-next-in-loop-next.ensures.value in (
+      goes_on n k c.args.start hole next _ settled walk long on
+          (omega (arith, same, c.source-next-in-loop-next.ensures.within)) source,
       (λ i h. settled_still settled hole i (omega (arith, long, walk.within)) (c.loop-next.invariant.1 i h)),
       (λ before p. takes n k before now settled hole next o walk.within long wide walk.source
-          (read n k before now settled next o walk.inside wide c.index-items-next.is (next_waits n k c.args.start hole next settled walk on) (c.loop-next.invariant.2 before p))
+          (read n k before now settled next o walk.inside wide c.index-items-next.is
+          (next_waits n k c.args.start hole next settled walk on) (c.loop-next.invariant.2 before p))
           (c.loop-next.invariant.2 before p)),
     )
 
@@ -40,5 +44,6 @@ returns-clause-turned c = λ before p.
     let wide : n ≤ length now = omega arith in
     takes n k before now settled hole start first walk.within long wide
     (subst (λ (m : ℕ). IsSource n k hole m) c.loop-next-test.false walk.source)
-    (read n k before c.args.items.now c.args.settled.now start first c.requires.within (omega arith) c.index-items-start.is c.if-settled-start.false p)
+    (read n k before c.args.items.now c.args.settled.now start first c.requires.within
+    (omega arith) c.index-items-start.is c.if-settled-start.false p)
     (c.loop-next.invariant.2 before p)

@@ -1,7 +1,7 @@
 use Rattle.std.proofs.Common.{ℕ, List, length, not}
 use Rattle.std.specs.Prelude.{count_by}
 use Rattle.ps_store.specs.declared.obj.Obj.{Obj}
-use Rattle.ps_store.specs.Turning.{IsSettled, ArePartlyTurned}
+use Rattle.ps_store.specs.Code.Turning.{IsSettled, ArePartlyTurned}
 use Rattle.ps_store.proofs.Cycles.{IsInCycle}
 use Rattle.ps_store.proofs.turning.settle_cycle.Given as goal
 
@@ -10,7 +10,8 @@ abbrev pub invariant-loop-next : goal.invariant-loop-next
 invariant-loop-next l =
     IsInCycle (length l.initial.items) l.k l.start l.hole l.next l.settled
     × ((i : ℕ) → IsSettled l.initial.settled i → IsSettled l.settled i)
-    × ((before : List Obj) → ArePartlyTurned (length l.initial.items) l.k before l.initial.settled l.initial.items → ArePartlyTurned (length l.initial.items) l.k before l.settled l.items)
+    × ((before : List Obj) → ArePartlyTurned (length l.initial.items) l.k before l.initial.settled l.initial.items →
+    ArePartlyTurned (length l.initial.items) l.k before l.settled l.items)
 
 abbrev pub decreases-loop-next : goal.decreases-loop-next
 decreases-loop-next l = count_by not l.settled

@@ -1,5 +1,5 @@
 use Rattle.std.proofs.Common.{ℕ, ◌<◌, length}
-use Rattle.ps_store.specs.Turning.{IsSettled, AreClosed, ArePartlyTurned}
+use Rattle.ps_store.specs.Code.Turning.{IsSettled, AreClosed, ArePartlyTurned}
 use Rattle.ps_store.proofs.turning.turn.Given as goal
 
 -- the places before the start are settled

@@ -7,10 +7,12 @@ pub operate_named-requires : goal.operate_named-requires
 operate_named-requires c = rw (sym c.self.view_is) (record {
   row = executed _ _ _ _
       (sym c.in-Some-Name-default-true.ensures.element
-      ∙ (c.in-Some-Name-default-true.field-0-is ∙ ap (Name c.in-Some-Name-default-true.name) c.in-Some-Name-default-true.field-0-1-test))
+      ∙ (c.in-Some-Name-default-true.field-0-is
+      ∙ ap (Name c.in-Some-Name-default-true.name) c.in-Some-Name-default-true.field-0-1-test))
       (sym c.in-Some-Oper-find_name.ensures ∙ ap Some c.in-Some-Oper-find_name.field-0-is);
   memory = executed_memory _ _ _ _
       (sym c.in-Some-Name-default-true.ensures.element
-      ∙ (c.in-Some-Name-default-true.field-0-is ∙ ap (Name c.in-Some-Name-default-true.name) c.in-Some-Name-default-true.field-0-1-test))
+      ∙ (c.in-Some-Name-default-true.field-0-is
+      ∙ ap (Name c.in-Some-Name-default-true.name) c.in-Some-Name-default-true.field-0-1-test))
       (sym c.in-Some-Oper-find_name.ensures ∙ ap Some c.in-Some-Oper-find_name.field-0-is);
 })

@@ -4,7 +4,14 @@ use Rattle.ps_store.proofs.stack.Stack.top_four.Goals as goal
 
 pub returns-else-len-lt4 : goal.returns-else-len-lt4
 returns-else-len-lt4 c = four _ _ _ _ _
-    (at_depth _ _ _ c.len-len.result 0 (c.len-len.result - 1) _ c.self.view_is c.len-len.ensures.value (omega (arith, c.if-len-lt4.false)) c.deref.ensures.0 c.index-deref-len.is (omega arith))
-    (at_depth _ _ _ c.len-len.result 1 (c.len-len.result - 2) _ c.self.view_is c.len-len.ensures.value (omega (arith, c.if-len-lt4.false)) c.deref-else-len-lt4.ensures.0 c.index-deref-len-else-len-lt4.is (omega arith))
-    (at_depth _ _ _ c.len-len.result 2 (c.len-len.result - 3) _ c.self.view_is c.len-len.ensures.value (omega (arith, c.if-len-lt4.false)) c.deref-else-len-lt4-2.ensures.0 c.index-deref-len-else-len-lt4-2.is (omega arith))
-    (at_depth _ _ _ c.len-len.result 3 (c.len-len.result - 4) _ c.self.view_is c.len-len.ensures.value (omega (arith, c.if-len-lt4.false)) c.deref-else-len-lt4-3.ensures.0 c.index-deref-len-else-len-lt4-3.is (omega arith))
+    (at_depth _ _ _ c.len-len.result 0 (c.len-len.result - 1) _ c.self.view_is c.len-len.ensures.value
+    (omega (arith, c.if-len-lt4.false)) c.deref.ensures.0 c.index-deref-len.is (omega arith))
+    (at_depth _ _ _ c.len-len.result 1 (c.len-len.result - 2) _ c.self.view_is c.len-len.ensures.value
+    (omega (arith, c.if-len-lt4.false)) c.deref-else-len-lt4.ensures.0 c.index-deref-len-else-len-lt4.is
+    (omega arith))
+    (at_depth _ _ _ c.len-len.result 2 (c.len-len.result - 3) _ c.self.view_is c.len-len.ensures.value
+    (omega (arith, c.if-len-lt4.false)) c.deref-else-len-lt4-2.ensures.0 c.index-deref-len-else-len-lt4-2.is
+    (omega arith))
+    (at_depth _ _ _ c.len-len.result 3 (c.len-len.result - 4) _ c.self.view_is c.len-len.ensures.value
+    (omega (arith, c.if-len-lt4.false)) c.deref-else-len-lt4-3.ensures.0 c.index-deref-len-else-len-lt4-3.is
+    (omega arith))

@@ -6,4 +6,5 @@ use Rattle.ps_store.proofs.store.Store.put_bytes.Given as goal
 abbrev pub invariant-loop-byte : goal.invariant-loop-byte
 invariant-loop-byte l =
     (l.place ≡ l.byte-index)
-    × (with_elements l.self l.span l.place (integers (drop l.byte-index l.bytes)) ≡ with_elements l.fn.self l.span 0 (integers l.bytes))
+    × (with_elements l.self l.span l.place (integers (drop l.byte-index l.bytes))
+    ≡ with_elements l.fn.self l.span 0 (integers l.bytes))
