@@ -1,22 +1,24 @@
 -- The graphics state, its saved copies, and the page that is painted
--- (PostScript Language Reference, third edition, 4.2 Graphics State and 8.2 Operator Details). Own rules: the limits of saved
+-- (PostScript Language Reference, third edition, 4.2 Graphics State and 8.2 Operator Details). Own rules: the limits of
+-- saved
 -- states, clips, marks and points, and of the dashes of a stroke.
-use Rattle.std.specs.Prelude.{ℕ, ℤ, pos, neg_ℤ, int_lt, unsigned_abs, ◌+◌, ◌*◌, ◌&&◌, List, [], ◌∷◌, ◌++◌, length, reverse, take, slice_get, Option, Some, None, Result, Ok, Err, nat_lt, nat_le, Bool, if◌then◌else◌}
+use Rattle.std.specs.Prelude.{ℕ, ℤ, pos, neg_ℤ, int_lt, unsigned_abs, ◌+◌, ◌*◌, ◌&&◌, List, [], ◌∷◌, ◌++◌, length}
+use Rattle.std.specs.Prelude.{reverse, take, slice_get, Option, Some, None, Result, Ok, Err, nat_lt, nat_le, Bool}
+use Rattle.std.specs.Prelude.{if◌then◌else◌}
 use Rattle.std.specs.Option.{option_map, option_and_then}
 use Rattle.press_nums.specs.Rounding.{div_round}
 use Rattle.press_nums.specs.Fix.{fix_of}
-use Rattle.press_fault.specs.Plane.{Spot, Channels}
-use Rattle.geo_matrix.specs.Affine.{Affine, identity}
+use Rattle.press_fault.specs.Plane.{PointValue, CodeValue}
+use Rattle.geo_matrix.specs.Affine.{MatrixValue, identity}
 use Rattle.geo_matrix.specs.Product.{concat_of}
 use Rattle.geo_path.specs.declared.path.PathFault.{PathFault}
 use Rattle.geo_path.specs.Path.{PathValue, count_of}
-use Rattle.geo_path.specs.Flat.{LineValue, lines_of, rings_of}
+use Rattle.geo_path.specs.Flat.{PolylineValue, lines_of, rings_of}
 use Rattle.geo_stroke.specs.Pen.{PenValue, cap_of, join_of}
 use Rattle.geo_stroke.specs.Dash.{dash_count, outline_of}
-use Rattle.page_model.specs.Marking.{Marking, Flatly}
-use Rattle.page_model.specs.Page.{Sheet}
+use Rattle.page_model.specs.Marking.{RegionValue, MarkValue, Flatly}
+use Rattle.page_model.specs.Page.{PageValue}
 use Rattle.page_model.specs.declared.shape.Rule.{Rule}
-use Rattle.page_model.specs.declared.shape.Region.{Region}
 use Rattle.page_model.specs.declared.shape.Rule.TheVariants.{Nonzero}
 use Rattle.page_model.specs.declared.shape.Shape.{Shape}
 use Rattle.page_model.specs.declared.shape.Shape.TheVariants.{Poly}
@@ -24,7 +26,7 @@ use Rattle.page_model.specs.declared.mark.Ink.TheVariants.{Plain}
 use Rattle.gfx_state.specs.declared.colour.Space.{Space}
 use Rattle.gfx_state.specs.declared.colour.Space.TheVariants.{Gray}
 use Rattle.gfx_state.specs.Colour.{codes_of, first_colour}
-use Rattle.gfx_state.specs.Lines.{LineParameters, initial_line}
+use Rattle.gfx_state.specs.Lines.{LineStyleValue, initial_line}
 use Rattle.gfx_state.specs.Stroke.{pen_of}
 use Rattle.gfx_state.specs.Points.{ring_points, all_points, mark_points}
 
@@ -36,27 +38,27 @@ pub record PageSize : Type 0 where
 
 -- one graphics state: the current transformation matrix, the colour space, the colour's codes, the path, the clip and
 -- the line parameters
-pub record GraphicsState : Type 0 where
-  pub matrix : Affine
+pub record StateValue : Type 0 where
+  pub matrix : MatrixValue
   pub space : Space
-  pub code : Channels
+  pub code : CodeValue
   pub path : PathValue
-  pub clip : List Region
-  pub line : LineParameters
+  pub clip : List RegionValue
+  pub line : LineStyleValue
 
 -- the page's size, the current state, its saved copies (the last one saved first), and the marks of the page so far
-pub record Graphics : Type 0 where
+pub record GfxValue : Type 0 where
   pub size : PageSize
-  pub state : GraphicsState
-  pub saved : List GraphicsState
-  pub marks : List Marking
+  pub state : StateValue
+  pub saved : List StateValue
+  pub marks : List MarkValue
 
 -- dots for each point of 1/72 inch, as a raw number
 abbrev pub dots_per_point : ℕ → ℤ
 dots_per_point res = div_round (pos (res * 65536)) (pos 72)
 
 -- the default matrix: the origin at the lower left corner of the page, and y up
-unfoldable pub default_matrix : PageSize → Affine
+unfoldable pub default_matrix : PageSize → MatrixValue
 default_matrix size = record {
   a = dots_per_point size.res;
   b = pos 0;
@@ -70,169 +72,192 @@ default_matrix size = record {
 abbrev pub no_path : PathValue
 no_path = record { before = []; last = None }
 
--- what initgraphics sets
-abbrev pub initial_state : PageSize → GraphicsState
-initial_state size = record { matrix = default_matrix size; space = Gray; code = first_colour Gray; path = no_path; clip = []; line = initial_line }
+-- what `initgraphics` sets: the default matrix, black in gray, no path, no clip, the first line parameters
+abbrev pub initial_state : PageSize → StateValue
+initial_state size = record {
+  matrix = default_matrix size;
+  space = Gray;
+  code = first_colour Gray;
+  path =
+      no_path;
+  clip = [];
+  line = initial_line;
+}
 
--- a blank page, as a program finds it
-abbrev pub opening : PageSize → Graphics
+-- a blank page, as a program finds it, with what `initgraphics` sets and no saved state
+abbrev pub opening : PageSize → GfxValue
 opening size = record { size = size; state = initial_state size; saved = []; marks = [] }
 
 -- From here on each call is written as `record g { .. }`: what it doesn't name stays as it is.
-abbrev pub with_state : Graphics → GraphicsState → Graphics
+
+-- with another current state; size, saved states and marks stay
+abbrev pub with_state : GfxValue → StateValue → GfxValue
 with_state g state = record g { state = state }
 
-abbrev pub with_initial : Graphics → Graphics
+-- the graphics state after `initgraphics`, which leaves the saved states and the marks as they are
+abbrev pub with_initial : GfxValue → GfxValue
 with_initial g = with_state g (initial_state g.size)
 
 -- the page without its marks
-abbrev pub erased : Graphics → Graphics
+abbrev pub erased : GfxValue → GfxValue
 erased g = record g { marks = [] }
 
--- a blank page of another size, with what initgraphics sets
-abbrev pub resized : Graphics → ℕ → ℕ → Graphics
-resized g width height = with_initial (erased (record g { size = record { width = width; height = height; res = g.size.res } }))
+-- a blank page of another size in dots, with what `initgraphics` sets; the saved states and the dots of an inch stay
+abbrev pub resized : GfxValue → ℕ → ℕ → GfxValue
+resized g width height = with_initial (erased
+    (record g { size = record { width = width; height = height; res = g.size.res } }))
 
 -- with another current transformation matrix
-abbrev pub with_matrix : Graphics → Affine → Graphics
+abbrev pub with_matrix : GfxValue → MatrixValue → GfxValue
 with_matrix g matrix = with_state g (record g.state { matrix = matrix })
 
 -- with the default matrix
-abbrev pub with_default_matrix : Graphics → Graphics
+abbrev pub with_default_matrix : GfxValue → GfxValue
 with_default_matrix g = with_matrix g (default_matrix g.size)
 
 -- with a matrix put before the current one, where each element of the product is a real number
-abbrev pub concatenated : Graphics → Affine → Option Graphics
+abbrev pub concatenated : GfxValue → MatrixValue → Option GfxValue
 concatenated g matrix = option_map (with_matrix g) (concat_of matrix g.state.matrix)
 
 -- the matrix that moves the origin to (x, y)
-abbrev pub translation : ℤ → ℤ → Affine
+abbrev pub translation : ℤ → ℤ → MatrixValue
 translation x y = record identity { tx = x; ty = y }
 
 -- the matrix that makes the units of x and y so many times as long
-abbrev pub scaling : ℤ → ℤ → Affine
+abbrev pub scaling : ℤ → ℤ → MatrixValue
 scaling x y = record identity { a = x; d = y }
 
 -- with another path
-abbrev pub with_path : Graphics → PathValue → Graphics
+abbrev pub with_path : GfxValue → PathValue → GfxValue
 with_path g path = with_state g (record g.state { path = path })
 
 -- with the path that a call on it answers, or its refusal
-abbrev pub with_answer : Graphics → Result PathValue PathFault → Result Graphics PathFault
+abbrev pub with_answer : GfxValue → Result PathValue PathFault → Result GfxValue PathFault
 with_answer g (Ok path) = Ok (with_path g path)
 with_answer g (Err fault) = Err fault
 
 -- with another colour space, and its first colour
-abbrev pub with_space : Graphics → Space → Graphics
+abbrev pub with_space : GfxValue → Space → GfxValue
 with_space g space = with_state g (record g.state { space = space; code = first_colour space })
 
 -- with another colour of the same space
-abbrev pub with_colour : Graphics → List ℤ → Graphics
+abbrev pub with_colour : GfxValue → List ℤ → GfxValue
 with_colour g values = with_state g (record g.state { code = codes_of values })
 
 -- with other line parameters
-abbrev pub with_line : Graphics → LineParameters → Graphics
+abbrev pub with_line : GfxValue → LineStyleValue → GfxValue
 with_line g line = with_state g (record g.state { line = line })
 
 -- with another line width, taken without its sign, where that is a real number
-abbrev pub with_width : Graphics → ℤ → Option Graphics
-with_width g width = option_map (λ magnitude. with_line g (record g.state.line { width = magnitude })) (fix_of (pos (unsigned_abs width)))
+abbrev pub with_width : GfxValue → ℤ → Option GfxValue
+with_width g width = option_map (λ magnitude. with_line g (record g.state.line { width = magnitude }))
+    (fix_of (pos (unsigned_abs width)))
 
--- with the cap of a number, where there is one
-abbrev pub with_cap : Graphics → ℤ → Option Graphics
+-- with the cap of a number, refused where it is none of 0, 1 and 2
+abbrev pub with_cap : GfxValue → ℤ → Option GfxValue
 with_cap g number = option_map (λ cap. with_line g (record g.state.line { cap = cap })) (cap_of number)
 
--- with the join of a number, where there is one
-abbrev pub with_join : Graphics → ℤ → Option Graphics
+-- with the join of a number, refused where it is none of 0, 1 and 2
+abbrev pub with_join : GfxValue → ℤ → Option GfxValue
 with_join g number = option_map (λ join. with_line g (record g.state.line { join = join })) (join_of number)
 
--- with another miter limit, of 1 at least
-abbrev pub with_miter : Graphics → ℤ → Option Graphics
-with_miter g limit = if int_lt limit (pos 65536) then None else Some (with_line g (record g.state.line { miter = limit }))
+-- with another miter limit, refused below 1
+abbrev pub with_miter : GfxValue → ℤ → Option GfxValue
+with_miter g limit = if int_lt limit (pos 65536) then None
+    else Some (with_line g (record g.state.line { miter = limit }))
 
 -- with other dashes and another offset
-abbrev pub with_dash : Graphics → List ℤ → ℤ → Graphics
+abbrev pub with_dash : GfxValue → List ℤ → ℤ → GfxValue
 with_dash g dashes offset = with_line g (record g.state.line { dashes = dashes; offset = offset })
 
 -- with another clip
-abbrev pub with_clip : Graphics → List Region → Graphics
+abbrev pub with_clip : GfxValue → List RegionValue → GfxValue
 with_clip g clip = with_state g (record g.state { clip = clip })
 
 -- a path as a region of a clip: the rings of its subpaths
-abbrev pub region_of : Rule → PathValue → Region
+abbrev pub region_of : Rule → PathValue → RegionValue
 region_of rule path = record { rule = rule; rings = rings_of (lines_of path) }
 
 -- with a path as one more region of the clip, at most 256
-abbrev pub clipped_to : Graphics → Rule → PathValue → Option Graphics
+abbrev pub clipped_to : GfxValue → Rule → PathValue → Option GfxValue
 clipped_to g rule path =
     if nat_lt (length g.state.clip) 256
     then Some (with_clip g (g.state.clip ++ region_of rule path ∷ []))
     else None
 
 -- with the current path as one more region of the clip; the path stays
-abbrev pub clipped : Graphics → Rule → Option Graphics
+abbrev pub clipped : GfxValue → Rule → Option GfxValue
 clipped g rule = clipped_to g rule g.state.path
 
 -- with the whole page as the clip: no regions
-abbrev pub with_initial_clip : Graphics → Graphics
+abbrev pub with_initial_clip : GfxValue → GfxValue
 with_initial_clip g = with_clip g []
 
 -- with a copy of the current state saved, at most 32
-abbrev pub saved_state : Graphics → Option Graphics
+abbrev pub saved_state : GfxValue → Option GfxValue
 saved_state g = if nat_lt (length g.saved) 32 then Some (record g { saved = g.state ∷ g.saved }) else None
 
 -- back to the state saved last, which isn't saved any more; nothing where none is saved
-abbrev pub back_to : Graphics → List GraphicsState → Graphics
+abbrev pub back_to : GfxValue → List StateValue → GfxValue
 back_to g [] = g
 back_to g (state ∷ saved) = record g { state = state; saved = saved }
 
-abbrev pub restored : Graphics → Graphics
+-- what `grestore` does: the state saved last is the current one again; nothing changes where none is saved
+abbrev pub restored : GfxValue → GfxValue
 restored g = back_to g g.saved
 
 -- the state saved first, which is the last of the list
-abbrev pub first_saved : List GraphicsState → Option GraphicsState
+abbrev pub first_saved : List StateValue → Option StateValue
 first_saved saved = slice_get (reverse saved) 0
 
--- that state alone
-abbrev pub only_first : List GraphicsState → List GraphicsState
+-- the state saved first, alone
+abbrev pub only_first : List StateValue → List StateValue
 only_first saved = take 1 (reverse saved)
 
 -- back to the state saved first, which stays as the only one saved; nothing where none is saved
-abbrev pub back_to_first : Graphics → Option GraphicsState → Graphics
+abbrev pub back_to_first : GfxValue → Option StateValue → GfxValue
 back_to_first g None = g
 back_to_first g (Some state) = record g { state = state; saved = only_first g.saved }
 
-abbrev pub all_restored : Graphics → Graphics
+-- what `grestoreall` does: the state saved first is the current one again, and stays saved alone
+abbrev pub all_restored : GfxValue → GfxValue
 all_restored g = back_to_first g (first_saved g.saved)
 
 -- a mark of shapes in the current colour, cut by the current clip
-abbrev pub mark_with : GraphicsState → Rule → List Shape → Marking
-mark_with state rule shapes = record { rule = rule; shapes = shapes; clip = state.clip; paint = Flatly (Plain state.code) }
+abbrev pub mark_with : StateValue → Rule → List Shape → MarkValue
+mark_with state rule shapes = record {
+  rule = rule;
+  shapes = shapes;
+  clip = state.clip;
+  paint =
+      Flatly (Plain state.code);
+}
 
 -- a mark of rings: one polygon
-abbrev pub mark_of : GraphicsState → Rule → List (List Spot) → Marking
+abbrev pub mark_of : StateValue → Rule → List (List PointValue) → MarkValue
 mark_of state rule rings = mark_with state rule (Poly rings ∷ [])
 
--- whether a page has room for one more mark of so many points
-abbrev pub has_room : Graphics → ℕ → Bool
+-- whether a page has room for one more mark of so many points: at most 1,000,000 marks and 4,194,304 points
+abbrev pub has_room : GfxValue → ℕ → Bool
 has_room g points = nat_lt (length g.marks) 1000000 && nat_le (mark_points g.marks + points) 4194304
 
 -- the page with a mark of rings, where it has room
-abbrev pub painted : Graphics → Rule → List (List Spot) → Option Graphics
+abbrev pub painted : GfxValue → Rule → List (List PointValue) → Option GfxValue
 painted g rule rings =
     if has_room g (ring_points rings)
     then Some (record g { marks = g.marks ++ mark_of g.state rule rings ∷ [] })
     else None
 
--- the page where the path is filled, if the path has a point, and the path is empty then
-abbrev pub filled : Graphics → Rule → Option Graphics
+-- the page with one mark more, a polygon of all subpaths, flattened, refused where it has no room; a path without a
+-- point makes no mark; the path is empty then
+abbrev pub filled : GfxValue → Rule → Option GfxValue
 filled g rule =
     if nat_lt 0 (count_of g.state.path)
     then option_map (λ page. with_path page no_path) (painted g rule (rings_of (lines_of g.state.path)))
     else Some (with_path g no_path)
 
 -- the page with a mark of the shapes of a stroke, if there are any, where it has room
-abbrev pub marked : Graphics → List Shape → Option Graphics
+abbrev pub marked : GfxValue → List Shape → Option GfxValue
 marked g [] = Some g
 marked g (shape ∷ rest) =
     if has_room g (all_points (shape ∷ rest))
@@ -240,21 +265,21 @@ marked g (shape ∷ rest) =
     else None
 
 -- the shapes that a pen paints along lines, where it makes at most 65,536 dashes
-abbrev pub outlined : List LineValue → PenValue → Option (List Shape)
+abbrev pub outlined : List PolylineValue → PenValue → Option (List Shape)
 outlined lines pen = if nat_lt 65536 (dash_count pen lines) then None else Some (outline_of pen lines)
 
--- the shapes of a stroke of a path
-abbrev pub stroke_of : GraphicsState → PathValue → Option (List Shape)
+-- the shapes of a stroke of a path, none where the pen is out of range or it makes over 65,536 dashes
+abbrev pub stroke_of : StateValue → PathValue → Option (List Shape)
 stroke_of state path = option_and_then (outlined (lines_of path)) (pen_of state.matrix state.line)
 
 -- the page where a path is stroked
-abbrev pub stroked_along : Graphics → PathValue → Option Graphics
+abbrev pub stroked_along : GfxValue → PathValue → Option GfxValue
 stroked_along g path = option_and_then (marked g) (stroke_of g.state path)
 
 -- the page where the current path is stroked, and the path is empty then
-abbrev pub stroked : Graphics → Option Graphics
+abbrev pub stroked : GfxValue → Option GfxValue
 stroked g = option_map (λ page. with_path page no_path) (stroked_along g g.state.path)
 
--- the page as it is given
-abbrev pub page_of : Graphics → Sheet
+-- the page as it is given: its size and its marks, and no sources
+abbrev pub page_of : GfxValue → PageValue
 page_of g = record { width = g.size.width; height = g.size.height; sources = 0; marks = g.marks }

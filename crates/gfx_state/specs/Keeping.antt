@@ -1,7 +1,8 @@
--- What holds of every graphics state: the page is within its limits, its points are counted, and its marks are plain. Own
+-- What holds of every graphics state: the page is within its limits, its points are counted, and its marks are plain.
+-- Own
 -- rule: the limits.
 use Rattle.std.specs.Prelude.{◌≡◌, ◌≤◌, ◌*◌, ℕ, List, length, All}
-use Rattle.page_model.specs.Marking.{Marking}
+use Rattle.page_model.specs.Marking.{MarkValue}
 use Rattle.page_model.specs.Page.{HasKnownSource}
 use Rattle.gfx_state.specs.Points.{mark_points}
 
@@ -13,7 +14,9 @@ pub record IsPageSize (width height res : ℕ) : Type 0 where
   pub res_some : 1 ≤ res
   pub res_most : res ≤ 2400
 
-pub record IsKept (width height res : ℕ) (marks : List Marking) (points : ℕ) : Type 0 where
+-- what holds of every graphics state: its page's size, at most 1,000,000 marks, none by a source, and their points
+-- counted
+pub record IsGfxKept (width height res : ℕ) (marks : List MarkValue) (points : ℕ) : Type 0 where
   pub size : IsPageSize width height res
   pub counted : points ≡ mark_points marks
   pub few_points : points ≤ 4194304

@@ -1,8 +1,7 @@
 pub mod Colour
 pub mod Lines
 pub mod Stroke
-pub mod Clipped
-pub mod Held
 pub mod Points
 pub mod Keeping
 pub mod Graphics
+pub mod Code

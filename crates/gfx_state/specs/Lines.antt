@@ -1,7 +1,8 @@
 -- Line parameters (PostScript Language Reference, third edition, 8.2 `setlinewidth`, `setlinecap`,
 -- `setlinejoin`, `setmiterlimit`, `setdash`), by raw numbers of user space.
 -- Own rule: a line width is taken without its sign; a dash array has at most 32 lengths.
-use Rattle.std.specs.Prelude.{◌≤◌, ℤ, pos, ◌≤ℤ◌, ◌==◌, int_lt, unsigned_abs, nat_lt, Bool, ◌&&◌, ◌||◌, List, [], length, Option, Some, None, if◌then◌else◌}
+use Rattle.std.specs.Prelude.{◌≤◌, ℤ, pos, ◌≤ℤ◌, ◌==◌, int_lt, unsigned_abs, nat_lt, Bool, ◌&&◌, ◌||◌, List, [], length}
+use Rattle.std.specs.Prelude.{Option, Some, None, if◌then◌else◌}
 use Rattle.std.specs.List.{All, list_any, list_all}
 use Rattle.std.specs.declared.sync.Arc.{Arc}
 use Rattle.std.specs.declared.alloc.Global.{Global}
@@ -13,7 +14,7 @@ use Rattle.gfx_state.specs.declared.line_style.DashFault.{DashFault}
 use Rattle.gfx_state.specs.declared.line_style.DashFault.TheVariants.{RangeCheck, LimitCheck}
 
 -- the line parameters of a graphics state; dashes and gaps in turn, and how far along them a line begins
-pub record LineParameters : Type 0 where
+pub record LineStyleValue : Type 0 where
   pub width : ℤ
   pub cap : Cap
   pub join : Join
@@ -22,7 +23,7 @@ pub record LineParameters : Type 0 where
   pub offset : ℤ
 
 -- those at the start: width 1, cap 0, join 0, miter limit 10, and no dashes
-abbrev pub initial_line : LineParameters
+abbrev pub initial_line : LineStyleValue
 initial_line = record { width = pos 65536; cap = Butt; join = Miter; miter = pos 655360; dashes = []; offset = pos 0 }
 
 -- what line parameters keep: a width without sign, and a miter limit of 1 at least
@@ -30,7 +31,7 @@ pub record IsLine (width miter : ℤ) : Type 0 where
   pub magnitude : pos 0 ≤ℤ width
   pub limit : pos 65536 ≤ℤ miter
 
--- what a dash array keeps: few lengths, and none below 0
+-- what a dash array keeps: at most 32 lengths, and none below 0
 pub record IsDashArray (dashes : List ℤ) : Type 0 where
   pub few : length dashes ≤ 32
   pub lengths : All (λ dash. pos 0 ≤ℤ dash) dashes
@@ -52,7 +53,8 @@ is_zero dash = unsigned_abs dash == 0
 abbrev pub is_blank : List ℤ → Bool
 is_blank dashes = nat_lt 0 (length dashes) && list_all is_zero dashes
 
--- why a dash array is refused: a length below 0 or all of them 0, and then more than 32
+-- why a dash array is refused: rangecheck where a length is below 0 or there are lengths and all of them are 0, and
+-- only then limitcheck for more than 32
 abbrev pub dash_fault : List ℤ → Option DashFault
 dash_fault dashes =
     if list_any is_negative dashes || is_blank dashes then Some RangeCheck

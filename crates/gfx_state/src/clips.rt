@@ -1,11 +1,12 @@
 //! The clip: the regions that each mark is cut to.
-ghost use Rattle.std.specs.Prelude.{◌≡◌, ◌≤◌, ◌↔◌, ◌∷◌, ◌++◌, [], length, nat_lt, Some, None, OnOk, OnErr, IfOk, IsErrOf};
+ghost use Rattle.std.specs.Prelude.{◌≡◌, ◌≤◌, ◌↔◌, ◌∷◌, ◌++◌, [], length, nat_lt, Some, None, OnOk, OnErr, IfOk};
+ghost use Rattle.std.specs.Prelude.{IsErrOf};
 ghost use Rattle.std.specs.Arc.{arc_value};
 ghost use Rattle.gfx_state.specs.Graphics.{clipped, clipped_to, with_initial_clip, region_of};
 
 use crate::gfx::Gfx;
 use geo_path::Path;
-use page_model::{Clip, Region, Ring, Rings, Rule};
+use page_model::{Clip, Region, Rule};
 use press_fault::{Grow, Mem};
 use std::alloc::Global;
 use std::sync::Arc;
@@ -56,7 +57,7 @@ impl Gfx {
         if !self.has_clip_room() {
             return Err(Grow::LimitCheck);
         }
-        let rings = path.flatten()?.into_rings(self.alloc)?;
+        let rings = Arc::new(self.alloc, path.flatten()?.into_rings(self.alloc)?)?;
         let mut clip = self.state.clip_copy(self.alloc)?;
         clip.push(Region { rule, rings })?;
         Ok(Arc::new(self.alloc, clip)?)
@@ -70,36 +71,13 @@ impl Gfx {
     }
 }
 
-/// A clip of its own with the same regions.
+/// A clip of its own with the same regions, with room for one more.
 pub(crate) fn copy_clip(alloc: Global, clip: &Clip) -> Mem<Clip>
     ensures { IfOk result (λ copy. copy ≡ clip.now) }
 {
-    let mut copy = Clip::new(alloc);
+    let mut copy = Clip::with_room(alloc, clip.items().len().saturating_add(1))?;
     for region in clip.items() {
-        copy.push(Region {
-            rule: region.rule,
-            rings: copy_rings(alloc, &region.rings)?,
-        })?;
-    }
-    Ok(copy)
-}
-
-fn copy_rings(alloc: Global, rings: &Rings) -> Mem<Rings>
-    ensures { IfOk result (λ copy. copy ≡ rings.now) }
-{
-    let mut copy = Rings::new(alloc);
-    for ring in rings.items() {
-        copy.push(copy_ring(alloc, ring)?)?;
-    }
-    Ok(copy)
-}
-
-fn copy_ring(alloc: Global, ring: &Ring) -> Mem<Ring>
-    ensures { IfOk result (λ copy. copy ≡ ring.now) }
-{
-    let mut copy = Ring::new(alloc);
-    for point in ring.items() {
-        copy.push(*point)?;
+        copy.push(region.share()?)?;
     }
     Ok(copy)
 }

@@ -1,6 +1,7 @@
 //! The graphics state with its saved copies, and the page that is painted.
 ghost use Rattle.std.specs.Prelude.{◌≡◌, ◌≤◌, ◌↔◌, ℕ, length, Some, None, OnOk, OnErr, IfOk, IsErrOf};
-ghost use Rattle.gfx_state.specs.Graphics.{opening, default_matrix, resized, saved_state, restored, with_initial, all_restored, erased, with_space, with_colour, initial_state, page_of};
+ghost use Rattle.gfx_state.specs.Graphics.{opening, default_matrix, resized, saved_state, restored, with_initial};
+ghost use Rattle.gfx_state.specs.Graphics.{all_restored, erased, with_space, with_colour, initial_state, page_of};
 ghost use Rattle.gfx_state.specs.Keeping.{IsPageSize};
 ghost use Rattle.gfx_state.specs.Colour.{channels_of, gray_of};
 
@@ -32,11 +33,11 @@ pub struct Gfx {
 }
 
 impl Model for Gfx {
-    ghost use Rattle.gfx_state.specs.Graphics.{Graphics};
+    ghost use Rattle.gfx_state.specs.Graphics.{GfxValue};
     ghost use Rattle.std.specs.Prelude.{◌≡◌, []};
-    ghost use Rattle.gfx_state.specs.Keeping.{IsKept};
+    ghost use Rattle.gfx_state.specs.Keeping.{IsGfxKept};
 
-    ghost Value = { Graphics };
+    ghost Value = { GfxValue };
 
     ghost view = { λ g. record {
       size = record { width = g.width; height = g.height; res = g.res };
@@ -45,7 +46,7 @@ impl Model for Gfx {
       marks = g.marks;
     } };
 
-    ghost invariant = { λ g. IsKept g.width g.height g.res g.marks g.points × (g.no_clip.value ≡ []) };
+    ghost invariant = { λ g. IsGfxKept g.width g.height g.res g.marks g.points × (g.no_clip.value ≡ []) };
 }
 
 impl Gfx {

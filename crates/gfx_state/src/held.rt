@@ -1,7 +1,7 @@
 //! The path of a graphics state, which saved states share.
 ghost use Rattle.std.specs.Prelude.{◌≡◌, IfOk, OnErr};
 ghost use Rattle.gfx_state.specs.Graphics.{no_path};
-ghost use Rattle.gfx_state.specs.Held.{path_of};
+ghost use Rattle.gfx_state.specs.Code.Held.{path_of};
 
 use geo_path::Path;
 use press_fault::{Mem, NoMemory};
@@ -28,7 +28,7 @@ pub(crate) struct HeldPath {
 
 impl Model for HeldPath {
     ghost use Rattle.geo_path.specs.Path.{PathValue};
-    ghost use Rattle.gfx_state.specs.Held.{path_of};
+    ghost use Rattle.gfx_state.specs.Code.Held.{path_of};
 
     ghost Value = { PathValue };
 

@@ -2,7 +2,8 @@
 ghost use Rattle.std.specs.Prelude.{◌≡◌, ◌<◌, [], length, IfOk};
 ghost use Rattle.std.specs.Arc.{arc_value};
 ghost use Rattle.std.specs.List.{list_any, list_all};
-ghost use Rattle.gfx_state.specs.Lines.{initial_line, dashes_of, is_negative, is_zero, is_blank, dash_fault, IsDashArray};
+ghost use Rattle.gfx_state.specs.Lines.{initial_line, dashes_of, is_negative, is_zero, is_blank, dash_fault};
+ghost use Rattle.gfx_state.specs.Lines.{IsDashArray};
 
 use geo_stroke::{Cap, Join, MAX_DASHES};
 use press_fault::{Mem, NoMemory};
@@ -84,11 +85,19 @@ pub(crate) struct LineStyle {
 }
 
 impl Model for LineStyle {
-    ghost use Rattle.gfx_state.specs.Lines.{LineParameters, IsLine, dashes_of};
+    ghost use Rattle.gfx_state.specs.Lines.{LineStyleValue, IsLine, dashes_of};
 
-    ghost Value = { LineParameters };
+    ghost Value = { LineStyleValue };
 
-    ghost view = { λ s. record { width = s.width; cap = s.cap; join = s.join; miter = s.miter; dashes = dashes_of s.dashes; offset = s.offset } };
+    ghost view = { λ s. record {
+      width = s.width;
+      cap = s.cap;
+      join = s.join;
+      miter = s.miter;
+      dashes =
+          dashes_of s.dashes;
+      offset = s.offset;
+    } };
 
     ghost invariant = { λ s. IsLine s.width s.miter };
 }

@@ -92,7 +92,7 @@ impl Gfx {
         ensures ok { OnOk result (painted self.old rule rings ≡ Some self.new) }
         ensures err { OnErr result (self.new ≡ self.old) }
     {
-        let mut shapes = Shapes::new(self.alloc);
+        let mut shapes = Shapes::with_room(self.alloc, 1)?;
         shapes.push(Shape::Poly(rings))?;
         self.add_shapes(rule, shapes, points)
     }
@@ -105,7 +105,12 @@ impl Gfx {
             record self.old { marks = self.old.marks ++ mark_with self.old.state rule shapes ∷ [] }) }
         ensures err { OnErr result (self.new ≡ self.old) }
     {
-        let mark = flat_mark(rule, shapes, &self.state, &self.no_clip)?;
+        let mark = flat_mark(
+            rule,
+            Arc::new(self.alloc, shapes)?,
+            &self.state,
+            &self.no_clip,
+        )?;
         self.marks.push(mark)?;
         self.points += points;
         Ok(())
@@ -113,9 +118,9 @@ impl Gfx {
 }
 
 /// A mark of shapes in a state's colour, cut by its clip.
-fn flat_mark(rule: Rule, shapes: Shapes, state: &State, no_clip: &Arc<Clip>) -> Mem<Mark>
+fn flat_mark(rule: Rule, shapes: Arc<Shapes>, state: &State, no_clip: &Arc<Clip>) -> Mem<Mark>
     requires { arc_value no_clip.now ≡ [] }
-    ensures { IfOk result (λ mark. mark ≡ mark_with state.now rule shapes) }
+    ensures { IfOk result (λ mark. mark ≡ mark_with state.now rule (arc_value shapes)) }
 {
     Ok(Mark {
         rule,

@@ -103,7 +103,8 @@ impl Gfx {
         to: Fix,
         clockwise: bool,
     ) -> Result<(), PathFault>
-        ensures ok { OnOk result (with_answer self.old (arc_of self.old.state.path self.old.state.matrix x y r from to clockwise) ≡ Ok self.new) }
+        ensures ok { OnOk result (with_answer self.old
+            (arc_of self.old.state.path self.old.state.matrix x y r from to clockwise) ≡ Ok self.new) }
         ensures refused { IfErr (arc_of self.old.state.path self.old.state.matrix x y r from to clockwise)
             (λ fault. result ≡ Err fault) }
         ensures cause { IfErr result

@@ -1,5 +1,6 @@
 //! The pen that a stroke is painted with, by the line parameters and the matrix.
-ghost use Rattle.std.specs.Prelude.{◌≡◌, ◌≢◌, ◌≤◌, ◌<◌, ◌^◌, ◌↔◌, ◌*ℤ◌, ◌≤ℤ◌, pos, true, map, unsigned_abs, Some, None, Err, IfOk, IfSome, IsErrOf, IsTrue, ◌&&◌};
+ghost use Rattle.std.specs.Prelude.{◌≡◌, ◌≢◌, ◌≤◌, ◌<◌, ◌^◌, ◌↔◌, ◌*ℤ◌, ◌≤ℤ◌, pos, true, map, unsigned_abs, Some, None};
+ghost use Rattle.std.specs.Prelude.{Err, IfOk, IfSome, IsErrOf, IsTrue, ◌&&◌};
 ghost use Rattle.std.specs.List.{list_all};
 ghost use Rattle.press_nums.specs.Rounding.{div_round};
 ghost use Rattle.gfx_state.specs.Lines.{IsDashArray};

@@ -1,7 +1,7 @@
 //! One graphics state.
 ghost use Rattle.std.specs.Prelude.{◌≡◌, ◌∷◌, [], IfOk, OnOk, OnErr, MatchOption, length};
 ghost use Rattle.std.specs.Arc.{arc_value};
-ghost use Rattle.gfx_state.specs.Clipped.{regions_of};
+ghost use Rattle.gfx_state.specs.Code.Clipped.{regions_of};
 ghost use Rattle.gfx_state.specs.Graphics.{first_saved, only_first};
 
 use crate::clips::copy_clip;
@@ -29,12 +29,20 @@ pub(crate) struct State {
 }
 
 impl Model for State {
-    ghost use Rattle.gfx_state.specs.Graphics.{GraphicsState};
-    ghost use Rattle.gfx_state.specs.Clipped.{regions_of};
+    ghost use Rattle.gfx_state.specs.Graphics.{StateValue};
+    ghost use Rattle.gfx_state.specs.Code.Clipped.{regions_of};
 
-    ghost Value = { GraphicsState };
+    ghost Value = { StateValue };
 
-    ghost view = { λ s. record { matrix = s.matrix; space = s.space; code = s.code; path = s.path; clip = regions_of s.clip; line = s.line } };
+    ghost view = { λ s. record {
+      matrix = s.matrix;
+      space = s.space;
+      code = s.code;
+      path = s.path;
+      clip =
+          regions_of s.clip;
+      line = s.line;
+    } };
 }
 
 impl State {
@@ -61,13 +69,13 @@ impl State {
         }
     }
 
-    /// A clip of its own with the same regions.
+    /// A clip of its own with the same regions, with room for one more.
     pub(crate) fn clip_copy(&self, alloc: Global) -> Mem<Clip>
         ensures { IfOk result (λ clip. clip ≡ self.now.clip) }
     {
         match &self.clip {
             Some(clip) => copy_clip(alloc, clip),
-            None => Ok(Clip::new(alloc)),
+            None => Clip::with_room(alloc, 1),
         }
     }
 
@@ -110,9 +118,9 @@ pub(crate) struct Saved {
 
 impl Model for Saved {
     ghost use Rattle.std.specs.Prelude.{List, reverse};
-    ghost use Rattle.gfx_state.specs.Graphics.{GraphicsState};
+    ghost use Rattle.gfx_state.specs.Graphics.{StateValue};
 
-    ghost Value = { List GraphicsState };
+    ghost Value = { List StateValue };
 
     ghost view = { λ s. reverse s.states.items };
 }

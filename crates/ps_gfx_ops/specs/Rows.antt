@@ -1,4 +1,5 @@
--- The rows of the graphics operators: what each does to the operands, the store, the graphics state and the page (PostScript
+-- The rows of the graphics operators: what each does to the operands, the store, the graphics state and the page
+-- (PostScript
 -- Language Reference, third edition, 8.2 Operator Details). Own rule: the order of refusals.
 use Rattle.std.specs.Prelude.{List, Bool, true, false}
 use Rattle.page_model.specs.declared.shape.Rule.TheVariants.{Nonzero, EvenOdd}
@@ -6,23 +7,29 @@ use Rattle.ps_store.specs.declared.obj.Obj.{Obj}
 use Rattle.ps_store.specs.declared.oper.GfxOp.{GfxOp}
 use Rattle.ps_store.specs.declared.oper.GfxOp.TheVariants as OnGfx
 use Rattle.ps_store.specs.Outcome.{Outcome, Goes}
-use Rattle.ps_store.specs.Store.{Kept}
+use Rattle.ps_store.specs.Store.{StoreValue}
 use Rattle.geo_path.specs.Path.{closed}
-use Rattle.gfx_state.specs.Graphics.{Graphics, erased, restored, all_restored, with_initial, with_initial_clip, with_default_matrix, with_path, no_path}
-use Rattle.ps_gfx_ops.specs.Scene.{Scene, beside}
+use Rattle.gfx_state.specs.Graphics.{GfxValue, erased, restored, all_restored, with_initial, with_initial_clip}
+use Rattle.gfx_state.specs.Graphics.{with_default_matrix, with_path, no_path}
+use Rattle.ps_gfx_ops.specs.Scene.{GraphicsScene, beside}
 use Rattle.ps_gfx_ops.specs.States.{gsave_row}
 use Rattle.ps_gfx_ops.specs.Colours.{currentgray_row, setgray_row, setrgbcolor_row, setcmykcolor_row}
-use Rattle.ps_gfx_ops.specs.Lines.{setlinewidth_row, setmiterlimit_row, setlinecap_row, setlinejoin_row, setdash_row, currentlinewidth_row}
-use Rattle.ps_gfx_ops.specs.Matrices.{matrix_row, currentmatrix_row, setmatrix_row, concat_row, translate_row, scale_row, rotate_row, transform_row, itransform_row}
-use Rattle.ps_gfx_ops.specs.Paths.{moveto_row, lineto_row, rmoveto_row, rlineto_row, curveto_row, rcurveto_row, arc_row, currentpoint_row, fill_row, stroke_row, stroke_start, clip_row}
+use Rattle.ps_gfx_ops.specs.Lines.{setlinewidth_row, setmiterlimit_row, setlinecap_row, setlinejoin_row, setdash_row}
+use Rattle.ps_gfx_ops.specs.Lines.{currentlinewidth_row}
+use Rattle.ps_gfx_ops.specs.Matrices.{matrix_row, currentmatrix_row, setmatrix_row, concat_row, translate_row}
+use Rattle.ps_gfx_ops.specs.Matrices.{scale_row, rotate_row, transform_row, itransform_row}
+use Rattle.ps_gfx_ops.specs.Paths.{moveto_row, lineto_row, rmoveto_row, rlineto_row, curveto_row, rcurveto_row, arc_row}
+use Rattle.ps_gfx_ops.specs.Paths.{currentpoint_row, fill_row, stroke_row, stroke_start, clip_row}
 use Rattle.ps_gfx_ops.specs.Devices.{setpagedevice_row}
 use Rattle.ps_gfx_ops.specs.Rectangles.{rectfill_row, rectstroke_row, rectstroke_start, rectclip_row}
 
--- an operator without operands that is never refused
-abbrev pub becomes : Graphics → List Obj → Kept → Outcome Scene
+-- an operator without operands that is never refused, as `grestore`, `newpath` and `erasepage`
+abbrev pub becomes : GfxValue → List Obj → StoreValue → Outcome GraphicsScene
 becomes g operands s = Goes (record { operands = operands; store = s; graphics = g })
 
-unfoldable pub gfx_row : GfxOp → List Obj → Kept → Graphics → Outcome Scene
+-- what each graphics operator does to the operands, the store and the graphics state: enough operands, then their
+-- types, then its own conditions, and last stackoverflow and limitcheck, where its row has no order of its own
+unfoldable pub gfx_row : GfxOp → List Obj → StoreValue → GfxValue → Outcome GraphicsScene
 gfx_row OnGfx.Gsave operands s g = beside s (gsave_row operands g)
 gfx_row OnGfx.Grestore operands s g = becomes (restored g) operands s
 gfx_row OnGfx.Grestoreall operands s g = becomes (all_restored g) operands s
@@ -70,7 +77,8 @@ gfx_row OnGfx.Rectclip operands s g = beside s (rectclip_row operands g)
 gfx_row OnGfx.Erasepage operands s g = becomes (erased g) operands s
 gfx_row OnGfx.Setpagedevice operands s g = beside s (setpagedevice_row operands s g)
 
--- the operators that may find no memory
+-- the operators that may run out of memory: `gsave`, `grestoreall`, `setdash`, `matrix`, and those that draw or paint a
+-- path, a rectangle or a clip
 abbrev pub takes_memory : GfxOp → Bool
 takes_memory OnGfx.Gsave = true
 takes_memory OnGfx.Grestoreall = true
@@ -95,9 +103,10 @@ takes_memory OnGfx.Rectstroke = true
 takes_memory OnGfx.Rectclip = true
 takes_memory op = false
 
--- What is asked before any memory is: the whole row, but that the dashes and points of an outline aren't counted before it is
+-- What is asked before any memory is: the whole row, but that the dashes and points of an outline aren't counted before
+-- it is
 -- made.
-abbrev pub row_before_memory : GfxOp → List Obj → Kept → Graphics → Outcome Scene
+abbrev pub row_before_memory : GfxOp → List Obj → StoreValue → GfxValue → Outcome GraphicsScene
 row_before_memory OnGfx.Stroke operands s g = beside s (stroke_start operands g)
 row_before_memory OnGfx.Rectstroke operands s g = beside s (rectstroke_start operands g)
 row_before_memory op operands s g = gfx_row op operands s g

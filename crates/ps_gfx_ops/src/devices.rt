@@ -3,7 +3,8 @@ ghost use Rattle.std.specs.Prelude.{◌≡◌, ◌≢◌, ◌≤◌, Err, IfOk, 
 ghost use Rattle.ps_store.specs.Outcome.{Answers};
 ghost use Rattle.gfx_state.specs.Graphics.{PageSize};
 ghost use Rattle.gfx_state.specs.Keeping.{IsPageSize};
-ghost use Rattle.ps_gfx_ops.specs.Devices.{side_of, page_or_configuration, dots_of_sides, sides_of, size_in, one_size, setpagedevice_row};
+ghost use Rattle.ps_gfx_ops.specs.Devices.{side_of, page_or_configuration, dots_of_sides, sides_of, size_in, one_size};
+ghost use Rattle.ps_gfx_ops.specs.Devices.{setpagedevice_row};
 
 use crate::matrices::are_numbers;
 use crate::points::point_of;

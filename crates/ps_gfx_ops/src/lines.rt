@@ -3,7 +3,8 @@ ghost use Rattle.std.specs.Prelude.{◌≡◌, ◌≢◌, ◌≤◌, ◌&&◌, n
 ghost use Rattle.std.specs.List.{list_any, list_all};
 ghost use Rattle.gfx_state.specs.Lines.{dash_fault, is_negative, is_zero};
 ghost use Rattle.ps_store.specs.Outcome.{Answers, TellsRefusal};
-ghost use Rattle.ps_gfx_ops.specs.Lines.{one_integer, number_in, dash_error, setlinewidth_row, setmiterlimit_row, setlinecap_row, setlinejoin_row, setdash_row, currentlinewidth_row};
+ghost use Rattle.ps_gfx_ops.specs.Lines.{one_integer, number_in, dash_error, setlinewidth_row, setmiterlimit_row};
+ghost use Rattle.ps_gfx_ops.specs.Lines.{setlinecap_row, setlinejoin_row, setdash_row, currentlinewidth_row};
 
 use crate::matrices::are_numbers;
 use crate::points::one_number;

@@ -4,14 +4,16 @@ ghost use Rattle.ps_store.specs.Outcome.{Answers, TellsRefusal};
 ghost use Rattle.std.specs.List.{list_all};
 ghost use Rattle.ps_store.specs.Numbers.{raw_of};
 ghost use Rattle.ps_store.specs.Gathering.{with_elements};
-ghost use Rattle.gfx_state.specs.Graphics.{Graphics};
-ghost use Rattle.ps_gfx_ops.specs.Matrices.{elements_of, is_number, matrix_or_type, matrix_of, one_matrix, matrix_row, currentmatrix_row, setmatrix_row, concat_row, translate_row, scale_row, rotate_row, transform_row, itransform_row};
+ghost use Rattle.gfx_state.specs.Graphics.{GfxValue};
+ghost use Rattle.ps_gfx_ops.specs.Matrices.{elements_of, is_number, matrix_or_type, matrix_of, one_matrix, matrix_row};
+ghost use Rattle.ps_gfx_ops.specs.Matrices.{currentmatrix_row, setmatrix_row, concat_row, translate_row, scale_row};
+ghost use Rattle.ps_gfx_ops.specs.Matrices.{rotate_row, transform_row, itransform_row};
 
 use crate::points::{one_number, one_point};
 use geo_matrix::{Matrix, device_of, user_of};
 use gfx_state::Gfx;
 use press_fault::{Grow, PsName, UndefinedResult};
-use ps_store::{MAX_OPERANDS, Obj, OpFault, Span, Stack, Store, number};
+use ps_store::{MAX_OPERANDS, Obj, OpFault, Part, Stack, Store, number};
 
 /// The elements of a matrix, as a program sees them.
 fn elements(m: &Matrix) -> [Obj; 6]
@@ -29,10 +31,10 @@ fn elements(m: &Matrix) -> [Obj; 6]
 
 /// `matrix`: a new array of the identity matrix.
 pub(crate) fn matrix(stack: &mut Stack, store: &mut Store) -> Result<(), OpFault>
-    ensures answers { (g : Graphics) → Answers (matrix_row stack.old store.old g) result
+    ensures answers { (g : GfxValue) → Answers (matrix_row stack.old store.old g) result
         (record { operands = stack.old; store = store.old; graphics = g })
         (record { operands = stack.new; store = store.new; graphics = g }) }
-    ensures refused { (g : Graphics) → TellsRefusal (matrix_row stack.old store.old g) result }
+    ensures refused { (g : GfxValue) → TellsRefusal (matrix_row stack.old store.old g) result }
 {
     if stack.len() >= MAX_OPERANDS {
         return Err(OpFault::Ps(PsName::StackOverflow));
@@ -69,7 +71,7 @@ pub(crate) fn currentmatrix(stack: &mut Stack, store: &mut Store, gfx: &Gfx) -> 
 
 /// Writes the elements of a matrix from the start of an array.
 #[tactic(auto, unfolding(ps_store::specs::Gathering::with_elements))]
-fn put_matrix(store: &mut Store, span: Span, m: &Matrix)
+fn put_matrix(store: &mut Store, span: Part, m: &Matrix)
     ensures { store.new ≡ with_elements store.old span 0 (elements_of m.now) }
 {
     store.put(span, 0, Obj::Real(m.a));
@@ -115,7 +117,8 @@ pub(crate) fn are_numbers(objects: &[Obj]) -> bool
 
 /// The matrix of six objects.
 fn six(a: &Obj, b: &Obj, c: &Obj, d: &Obj, tx: &Obj, ty: &Obj) -> Result<Matrix, PsName>
-    ensures { result ≡ matrix_or_type (raw_of a.now) (raw_of b.now) (raw_of c.now) (raw_of d.now) (raw_of tx.now) (raw_of ty.now) }
+    ensures { result ≡ matrix_or_type (raw_of a.now) (raw_of b.now) (raw_of c.now) (raw_of d.now) (raw_of tx.now)
+        (raw_of ty.now) }
 {
     let (Some(a), Some(b), Some(c), Some(d), Some(tx), Some(ty)) = (
         number(a),

@@ -4,7 +4,9 @@ ghost use Rattle.geo_matrix.specs.Affine.{IsNear};
 ghost use Rattle.geo_path.specs.Path.{line_of, curve_of, closed};
 ghost use Rattle.gfx_state.specs.Graphics.{with_path};
 ghost use Rattle.ps_store.specs.Outcome.{Answers, TellsRefusal};
-ghost use Rattle.ps_gfx_ops.specs.Paths.{error_of, drawn, stepped, moveto_row, lineto_row, rmoveto_row, rlineto_row, curveto_row, rcurveto_row, arc_row, currentpoint_row, fill_row, stroke_row, stroke_start, clip_row};
+ghost use Rattle.ps_gfx_ops.specs.Paths.{error_of, drawn, stepped, moveto_row, lineto_row, rmoveto_row, rlineto_row};
+ghost use Rattle.ps_gfx_ops.specs.Paths.{curveto_row, rcurveto_row, arc_row, currentpoint_row, fill_row, stroke_row};
+ghost use Rattle.ps_gfx_ops.specs.Paths.{stroke_start, clip_row};
 
 use crate::points::{one_point, three_points};
 use geo_matrix::{back, by_dots, to_dots};

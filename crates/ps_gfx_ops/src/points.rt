@@ -18,9 +18,9 @@ pub(crate) struct ThreePoints {
 }
 
 impl Model for ThreePoints {
-    ghost use Rattle.ps_gfx_ops.specs.Points.{ThreePlaces};
+    ghost use Rattle.ps_gfx_ops.specs.Points.{ThreePointsValue};
 
-    ghost Value = { ThreePlaces };
+    ghost Value = { ThreePointsValue };
 
     ghost view = { λ p. record { first = p.first; second = p.second; third = p.third } };
 

@@ -3,7 +3,8 @@ ghost use Rattle.std.specs.Prelude.{◌≡◌, ◌≤◌, [], ◌∷◌, length,
 ghost use Rattle.std.specs.List.{All};
 ghost use Rattle.geo_matrix.specs.Affine.{IsNear};
 ghost use Rattle.ps_store.specs.Outcome.{Answers, TellsRefusal};
-ghost use Rattle.ps_gfx_ops.specs.Rectangles.{rectangle_of, one_rectangle, path_along, rectfill_row, rectstroke_row, rectstroke_start, rectclip_row};
+ghost use Rattle.ps_gfx_ops.specs.Rectangles.{rectangle_of, one_rectangle, path_along, rectfill_row, rectstroke_row};
+ghost use Rattle.ps_gfx_ops.specs.Rectangles.{rectstroke_start, rectclip_row};
 
 use geo_matrix::{Matrix, to_dots};
 use geo_path::{Path, PathFault};
@@ -44,13 +45,13 @@ fn corners(m: &Matrix, x: Fix, y: Fix, w: Fix, h: Fix) -> Result<[Point; 4], PsN
 fn ring_of(alloc: Global, points: &[Point; 4]) -> Mem<Rings>
     ensures { IfOk result (λ rings. rings ≡ points.now ∷ []) }
 {
-    let mut ring = Ring::new(alloc);
+    let mut ring = Ring::with_room(alloc, 4)?;
     let [p, q, r, s] = points;
     ring.push(*p)?;
     ring.push(*q)?;
     ring.push(*r)?;
     ring.push(*s)?;
-    let mut rings = Rings::new(alloc);
+    let mut rings = Rings::with_room(alloc, 1)?;
     rings.push(ring)?;
     Ok(rings)
 }

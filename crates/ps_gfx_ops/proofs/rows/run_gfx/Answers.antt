@@ -10,8 +10,10 @@ returns-in-Matrix-clause-refused c = rw c.in-Matrix.is (c.matrix.ensures.refused
 
 pub returns-in-Stroke-clause-refused : goal.returns-in-Stroke-clause-refused
 returns-in-Stroke-clause-refused c =
-    rw c.in-Stroke.is (told c.args.store.now (stroke_start c.args.stack.now c.args.gfx.now) c.stroke.result c.stroke.ensures.refused_at_first)
+    rw c.in-Stroke.is (told c.args.store.now
+    (stroke_start c.args.stack.now c.args.gfx.now) c.stroke.result c.stroke.ensures.refused_at_first)
 
 pub returns-in-Rectstroke-clause-refused : goal.returns-in-Rectstroke-clause-refused
 returns-in-Rectstroke-clause-refused c =
-    rw c.in-Rectstroke.is (told c.args.store.now (rectstroke_start c.args.stack.now c.args.gfx.now) c.rectstroke.result c.rectstroke.ensures.refused_at_first)
+    rw c.in-Rectstroke.is (told c.args.store.now
+    (rectstroke_start c.args.stack.now c.args.gfx.now) c.rectstroke.result c.rectstroke.ensures.refused_at_first)

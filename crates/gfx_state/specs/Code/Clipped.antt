@@ -2,8 +2,9 @@
 use Rattle.std.specs.Prelude.{List, [], Option, Some, None}
 use Rattle.std.specs.declared.sync.Arc.{Arc}
 use Rattle.std.specs.declared.alloc.Global.{Global}
-use Rattle.page_model.specs.declared.shape.Region.{Region}
+use Rattle.page_model.specs.Marking.{RegionValue}
 
-abbrev pub regions_of : Option (Arc (List Region) Global) → List Region
+-- the regions of a clip, none where it has none
+abbrev pub regions_of : Option (Arc (List RegionValue) Global) → List RegionValue
 regions_of None = []
 regions_of (Some clip) = clip.value
