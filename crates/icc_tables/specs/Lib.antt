@@ -1,0 +1,4 @@
+pub mod Rounded
+pub mod Curves
+pub mod Lattice
+pub mod Pcs
