@@ -1,0 +1,11 @@
+pub mod Mapped
+pub mod Calls
+pub mod Agreement
+pub mod Entries
+pub mod Phases
+pub mod Keeps
+pub mod Asks
+pub mod OneSeat
+pub mod Others
+pub mod Journal
+pub mod Walks
