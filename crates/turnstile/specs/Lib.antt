@@ -1,0 +1,3 @@
+pub mod TurnRule
+pub mod Steps
+pub mod Tokens
