@@ -3,8 +3,15 @@ use Rattle.std.proofs.Common.{◌≡◌, ◌∙◌, ap, sym, ℕ, List, Option, 
 use Rattle.std.proofs.Math.Seq.{take-length}
 use Rattle.press_ports.specs.Causes.{with_piece, WritesFront, WritesProperFront}
 
-pub front_of_send : {A B : Type 0} (answer : Result A B) (old new : Option (List ℕ)) (piece sent : List ℕ) → sent ≡ piece → OnOk answer (new ≡ with_piece old sent) → OnErr answer (WritesProperFront old new sent) → WritesFront old new piece
+-- a call that sends a piece appends all of it, or a proper front where it fails
+pub front_of_send : {A B : Type 0} (answer : Result A B) (old new : Option (List ℕ)) (piece sent : List ℕ) →
+    sent ≡ piece → OnOk answer (new ≡ with_piece old sent) → OnErr answer (WritesProperFront old new sent) →
+    WritesFront old new piece
 front_of_send (Ok _) old new piece sent is ok err =
     (length piece, omega arith, ok ∙ ap (with_piece old) (is ∙ sym (take-length piece)))
-front_of_send (Err _) old new piece sent is ok err =
-    (err.0, (let less = err.1 in let same = ap length is in omega (arith, less, same)), err.2 ∙ ap (λ p. with_piece old (take err.0 p)) is)
+front_of_send (Err _) old new piece sent is ok err = (
+  err.0,
+  (let less = err.1 in let same = ap length is in omega (arith, less, same)),
+  err.2
+      ∙ ap (λ p. with_piece old (take err.0 p)) is,
+)

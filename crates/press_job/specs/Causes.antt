@@ -10,13 +10,14 @@ IsRefusal (ReadFault which) = Unit {0}
 IsRefusal (TooLong which) = Unit {0}
 IsRefusal status = ⊥
 
--- an input wasn't had
+-- an input couldn't be read, or was too long
 abbrev pub IsInputRefusal : Status → Type 0
 IsInputRefusal (ReadFault which) = Unit {0}
 IsInputRefusal (TooLong which) = Unit {0}
 IsInputRefusal status = ⊥
 
--- How often the shelf was asked: never where the words are refused, else at most once for each input; and where an input is
+-- How often the shelf was asked: never where the words are refused, else at most once for each input; and where an
+-- input is
 -- refused, exactly as often as its place among the inputs says. The program is the only input.
 pub record AsksInOrder (status : Status) (before now : ℕ) : Type 0 where
   pub none : status ≡ Usage → now ≡ before

@@ -13,11 +13,11 @@ use std::marker::Model;
 
 /// A line of at most 512 bytes, held in itself.
 #[derive(Drop)]
-struct Line {
+struct StatusLine {
     bytes: ArrayVec<u8, 512>,
 }
 
-impl Model for Line {
+impl Model for StatusLine {
     ghost use Rattle.std.specs.Prelude.{List, ℕ};
 
     ghost Value = { List ℕ };
@@ -25,20 +25,20 @@ impl Model for Line {
     ghost view = { λ line. line.bytes.items };
 }
 
-impl Line {
-    fn new() -> Line
+impl StatusLine {
+    fn new() -> StatusLine
         ensures { result ≡ [] }
     {
-        Line {
+        StatusLine {
             bytes: ArrayVec::new(),
         }
     }
 
-    fn of(text: &[u8]) -> Line
+    fn of(text: &[u8]) -> StatusLine
         requires { length text.now ≤ 256 }
         ensures { result ≡ text.now }
     {
-        let mut line = Line::new();
+        let mut line = StatusLine::new();
         line.add(text);
         line
     }
@@ -82,29 +82,32 @@ fn shown(byte: u8) -> u8
     }
 }
 
-fn status_line(status: &Status, names: &[Name]) -> Line
+fn status_line(status: &Status, names: &[Name]) -> StatusLine
     ensures { result ≡ line_of names.now status.now }
 {
     match status {
-        Status::Done => Line::new(),
+        Status::Done => StatusLine::new(),
         Status::Ps { name, command } => error_line(*name, command),
-        Status::Usage => Line::of(b"render: usage: render [options] PROGRAM [NAME=FILE ...]\n"),
+        Status::Usage => StatusLine::of(
+            b"render: usage: render [options] PROGRAM [NAME=FILE ...]\n",
+        ),
         Status::ReadFault { which } => {
             input_line(b"render: cannot read ", which_bytes(which, names), b"\n")
         }
-        Status::WriteFault => Line::of(b"render: cannot write output\n"),
+        Status::WriteFault => StatusLine::of(b"render: cannot write output\n"),
         Status::Profile { which, code } => profile_line(which_bytes(which, names), *code),
-        Status::NoMemory => Line::of(b"render: out of memory\n"),
+        Status::NoMemory => StatusLine::of(b"render: out of memory\n"),
         Status::TooLong { which } => {
             input_line(b"render: ", which_bytes(which, names), b" is too long\n")
         }
     }
 }
 
-fn error_line(name: PsName, command: &Name) -> Line
-    ensures { result ≡ codes "render: " ++ (text_of name ++ (codes " in " ++ (map printable command.now ++ codes "\n"))) }
+fn error_line(name: PsName, command: &Name) -> StatusLine
+    ensures { result ≡ codes "render: " ++ (text_of name
+        ++ (codes " in " ++ (map printable command.now ++ codes "\n"))) }
 {
-    let mut line = Line::of(b"render: ");
+    let mut line = StatusLine::of(b"render: ");
     line.add(name.text().as_bytes());
     line.add(b" in ");
     line.add_printable(command.bytes());
@@ -112,24 +115,24 @@ fn error_line(name: PsName, command: &Name) -> Line
     line
 }
 
-fn input_line(before: &[u8], which: &[u8], after: &[u8]) -> Line
+fn input_line(before: &[u8], which: &[u8], after: &[u8]) -> StatusLine
     requires before { length before.now ≤ 64 }
     requires which { length which.now ≤ 127 }
     requires after { length after.now ≤ 64 }
     ensures { result ≡ before.now ++ (which.now ++ after.now) }
 {
-    let mut line = Line::of(before);
+    let mut line = StatusLine::of(before);
     line.add(which);
     line.add(after);
     line
 }
 
-fn profile_line(which: &[u8], code: u8) -> Line
+fn profile_line(which: &[u8], code: u8) -> StatusLine
     requires { length which.now ≤ 127 }
     ensures { result ≡ codes "render: profile " ++ (which.now ++ (codes ": fault " ++ (decimal code ++ codes "\n"))) }
 {
     let mut number = Buffer::new();
-    let mut line = Line::of(b"render: profile ");
+    let mut line = StatusLine::of(b"render: profile ");
     line.add(which);
     line.add(b": fault ");
     line.add(number.format(code).as_bytes());
@@ -163,7 +166,8 @@ fn name_at(names: &[Name], place: u32) -> &[u8]
     }
 }
 
-/// Writes the line of a status, with `names` as the names of the profiles of the words. Where a write fails the rest of the
+/// Writes the line of a status, with `names` as the names of the profiles of the words. Where a write fails the rest of
+/// the
 /// line is dropped.
 pub fn tell<E: Sink>(err: &mut E, status: &Status, names: &[Name])
     ensures front { WritesFront (E.written err.old) (E.written err.new) (line_of names.now status.now) }

@@ -1,8 +1,9 @@
 //! A program that runs: it hands out its pages one by one, and then its end.
-ghost use Rattle.std.specs.Prelude.{◌≡◌, ◌≤◌, length, IfOk};
-ghost use Rattle.press_job.specs.Painted.{IsDrawable};
+ghost use Rattle.std.specs.Prelude.{◌≡◌, ◌≤◌, length, IfOk, OnErr};
+ghost use Rattle.press_job.specs.Meaning.{ends};
+ghost use Rattle.press_job.specs.Code.Painted.{IsDrawable};
 ghost use Rattle.press_job.specs.Program.{meaning_of, status_of};
-ghost use Rattle.press_job.specs.Turn.{after, IsFairEvent};
+ghost use Rattle.press_job.specs.Code.Turn.{after, IsFairEvent};
 
 use page_model::Page;
 use press_fault::{Mem, NoMemory, Status};
@@ -12,7 +13,7 @@ use std::marker::Model;
 
 /// What a program does next.
 #[derive(Drop)]
-pub(crate) enum Event {
+pub(crate) enum JobEvent {
     /// It shows a page.
     Page(Page),
     /// It ends, with `Status::Done` or an error of its own.
@@ -21,41 +22,43 @@ pub(crate) enum Event {
 
 /// A program that runs. Contracts see what it means from here on.
 #[derive(Drop)]
-pub(crate) struct Machine {
+pub(crate) struct JobMachine {
     interpreter: ps_machine::Machine,
 }
 
-impl Model for Machine {
-    ghost use Rattle.press_job.specs.Meaning.{Meaning};
+impl Model for JobMachine {
+    ghost use Rattle.press_job.specs.Meaning.{JobMeaning};
     ghost use Rattle.press_job.specs.Program.{left_of};
 
-    ghost Value = { Meaning };
+    ghost Value = { JobMeaning };
 
     ghost view = { λ m. left_of m.interpreter };
 }
 
-impl Machine {
+impl JobMachine {
     /// A program at its start, on a page of this size.
-    pub(crate) fn new(alloc: Global, program: Vec<u8>, page: Setup) -> Mem<Machine>
+    pub(crate) fn new(alloc: Global, program: Vec<u8>, page: Setup) -> Mem<JobMachine>
         ensures means { IfOk result (λ machine. machine ≡ meaning_of page program.items) }
         ensures few { length (meaning_of page program.items).pages ≤ 1000000000000 }
     {
-        Ok(Machine {
+        Ok(JobMachine {
             interpreter: ps_machine::Machine::new(alloc, program, page)?,
         })
     }
 
-    /// Goes on to the next page or to the end.
-    pub(crate) fn next_page(&mut self) -> Mem<Event>
+    /// Goes on to the next page or to the end. Memory runs out only where the interpreter's own call
+    /// says so, and then that is all that the program still means: no end and no page is told so.
+    pub(crate) fn next_page(&mut self) -> Mem<JobEvent>
         ensures next { IfOk result (λ event. self.old ≡ after event self.new) }
         ensures fair { IfOk result IsFairEvent }
+        ensures spent { OnErr result (self.new ≡ ends Status.NoMemory) }
     {
         match self.interpreter.next_page() {
             Ok(ps_machine::Event::Page(page)) => {
                 see_drawable(&page);
-                Ok(Event::Page(page))
+                Ok(JobEvent::Page(page))
             }
-            Ok(ps_machine::Event::End(end)) => Ok(Event::End(status(&end))),
+            Ok(ps_machine::Event::End(end)) => Ok(JobEvent::End(status(&end))),
             Err(NoMemory) => Err(NoMemory),
         }
     }

@@ -1,6 +1,6 @@
 use Rattle.std.proofs.Common.{◌≡◌, ◌+◌, ◌++◌, map, take, length}
 use Rattle.press_job.specs.Lines.{printable}
-use Rattle.press_job.proofs.lines.Line.add_printable.Given as goal
+use Rattle.press_job.proofs.lines.StatusLine.add_printable.Given as goal
 
 -- the bytes passed so far, as they print, behind what was there
 abbrev pub invariant-loop-byte : goal.invariant-loop-byte
