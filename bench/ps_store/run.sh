@@ -1,12 +1,12 @@
 #!/bin/sh
 # Look-ups in the store against Rust's own HashMap, one after the other in one run.
-# Needs rustc, and `rt run` in crates/store_speed beforehand.
+# Needs rustc, and `rt run -- all` in crates/speed beforehand.
 set -e
 cd "$(dirname "$0")"
 work=$(mktemp -d)
 rustc -O -o "$work/race" race.rs
 for turn in 1 2 3; do
-    ../../crates/store_speed/out/store_speed times
+    ../../crates/speed/out/speed store
     "$work/race"
 done
 rm -r "$work"

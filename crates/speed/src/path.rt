@@ -1,23 +1,15 @@
-//! How fast curves are flattened: ten thousand curves of 32 pieces.
-//!
-//! Standard output has the number of points and a sum of them, standard error the time of a round.
-#![tactic(auto)]
+//! How fast curves are flattened: ten thousand curves of 32 pieces, twenty times, or once.
 
 ghost use Rattle.std.specs.Prelude.{◌≤◌};
 
-use geo_path::{Lines, Path, PathFault};
-use press_fault::Point;
+use crate::{Size, no_memory};
+use geo_path::{Path, PathFault, Polylines};
+use page_model::point;
 use std::alloc::Global;
 use std::io;
 use std::time::Instant;
 
 const CURVES: u16 = 10_000;
-
-const ROUNDS: u32 = 20;
-
-fn point(x: i32, y: i32) -> Point {
-    Point::new(i64::from(x), i64::from(y))
-}
 
 fn add_curve(path: &mut Path, k: u16) -> Result<(), PathFault>
     requires { k ≤ 10000 }
@@ -41,7 +33,7 @@ fn sample(alloc: Global) -> Result<Path, PathFault> {
 }
 
 /// How many points there are, and a sum of their coordinates.
-fn summed(lines: &Lines) -> (u64, i64) {
+fn summed(lines: &Polylines) -> (u64, i64) {
     let mut count: u64 = 0;
     let mut sum: i64 = 0;
     for line in lines.items() {
@@ -56,21 +48,23 @@ fn summed(lines: &Lines) -> (u64, i64) {
     (count, sum)
 }
 
-fn main(rt: HostRuntime) -> io::Result<()> {
+/// Prints the number of points and a sum of them, and the microseconds of a round.
+pub(crate) fn run(rt: &HostRuntime, size: Size) -> io::Result<()> {
     let Ok(path) = sample(rt.alloc()) else {
-        return Ok(());
+        return Err(no_memory());
     };
-    let start = Instant::now(&rt)?;
-    let mut last = Lines::new(rt.alloc());
-    for _ in 0..ROUNDS {
+    let rounds = size.rounds(20, 1);
+    let start = Instant::now(rt)?;
+    let mut last = Polylines::new(rt.alloc());
+    for _ in 0..rounds {
         let Ok(lines) = path.flatten() else {
-            return Ok(());
+            return Err(no_memory());
         };
         last = lines;
     }
-    let micros = start.elapsed(&rt)?.as_micros() / 20;
+    let micros = start.elapsed(rt)?.as_micros() / u128::from(rounds.max(1));
     let (count, sum) = summed(&last);
-    println!(rt; "{count} points, sum {sum}")?;
-    eprintln!(rt; "{micros}")?;
+    println!(rt; "path: {count} points, sum {sum}")?;
+    eprintln!(rt; "path: {micros} us")?;
     Ok(())
 }

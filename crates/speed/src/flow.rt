@@ -1,15 +1,14 @@
-//! Counts 100,000,000 turns of an empty loop on the execution stack.
-#![tactic(auto)]
+//! Counts turns of an empty loop on the execution stack: 100,000,000 of them, or 1,000,000.
 
+use crate::{Size, no_memory};
 use ps_flow::{Flow, NextObj, Pushes, run_flow};
-use ps_store::{Dicts, FlowOp, Obj, Span, Stack, Store};
+use ps_store::{Dicts, FlowOp, Obj, Part, Stack, Store};
 use std::io;
-
-const TURNS: u32 = 100_000_000;
+use std::time::Instant;
 
 /// Opens `{ } loop`, and false where it can't.
 fn opened(stack: &mut Stack, flow: &mut Flow, store: &mut Store, dicts: &Dicts) -> bool {
-    let nothing = Span {
+    let nothing = Part {
         id: 0,
         start: 0,
         len: 0,
@@ -30,16 +29,21 @@ fn turns_of(flow: &mut Flow, requests: u32) -> u32 {
     turns
 }
 
-fn main(rt: HostRuntime) -> io::Result<()> {
+/// Prints how many turns there were.
+pub(crate) fn run(rt: &HostRuntime, size: Size) -> io::Result<()> {
     let mut store = Store::new(rt.alloc());
     let Ok(dicts) = Dicts::new(&mut store) else {
-        return Ok(());
+        return Err(no_memory());
     };
     let mut stack = Stack::new();
     let mut flow = Flow::new(rt.alloc());
     if opened(&mut stack, &mut flow, &mut store, &dicts) {
-        let turns = turns_of(&mut flow, TURNS);
-        println!(rt; "{turns} turns")?;
+        let requests = size.rounds(100_000_000, 1_000_000);
+        let start = Instant::now(rt)?;
+        let turns = turns_of(&mut flow, requests);
+        let millis = start.elapsed(rt)?.as_millis();
+        println!(rt; "flow: {turns} turns")?;
+        eprintln!(rt; "flow: {millis} ms")?;
     }
     Ok(())
 }

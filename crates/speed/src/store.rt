@@ -1,17 +1,15 @@
-//! Ten million look-ups of names in a dictionary of 1,000 names, and the same in a `HashMap` of the
-//! same keys. With an argument it also tells the milliseconds of each.
-#![tactic(auto)]
+//! Look-ups of names in a dictionary of 1,000 names, and in a `HashMap` of the same keys: ten million, or ten
+//! thousand.
 
+use crate::{Size, no_memory};
 use press_fault::{Mem, Name, NoMemory};
 use ps_store::{Key, Obj, Store};
 use std::alloc::Global;
 use std::collections::HashMap;
+use std::io;
 use std::time::Instant;
-use std::{env, io};
 
 const NAMES: u32 = 1_000;
-
-const ROUNDS: u32 = 10_000;
 
 /// The name `name` with three digits behind it.
 fn numbered(n: u32) -> Mem<Name> {
@@ -61,9 +59,9 @@ fn defined(store: &mut Store, keys: &[Key]) -> Mem<u32> {
     Ok(dict)
 }
 
-fn found_in_dictionary(store: &Store, dict: u32, keys: &[Key]) -> u32 {
+fn found_in_dictionary(store: &Store, dict: u32, keys: &[Key], rounds: u32) -> u32 {
     let mut found = 0u32;
-    for _ in 0..ROUNDS {
+    for _ in 0..rounds {
         for key in keys {
             if store.look_up(dict, key).is_some() {
                 found = found.wrapping_add(1);
@@ -73,9 +71,9 @@ fn found_in_dictionary(store: &Store, dict: u32, keys: &[Key]) -> u32 {
     found
 }
 
-fn found_in_map(map: &HashMap<Key, Obj>, keys: &[Key]) -> u32 {
+fn found_in_map(map: &HashMap<Key, Obj>, keys: &[Key], rounds: u32) -> u32 {
     let mut found = 0u32;
-    for _ in 0..ROUNDS {
+    for _ in 0..rounds {
         for key in keys {
             if map.get(key).is_some() {
                 found = found.wrapping_add(1);
@@ -85,29 +83,27 @@ fn found_in_map(map: &HashMap<Key, Obj>, keys: &[Key]) -> u32 {
     found
 }
 
-fn main(rt: HostRuntime) -> io::Result<()> {
+/// Prints how many were found, and the milliseconds of each.
+pub(crate) fn run(rt: &HostRuntime, size: Size) -> io::Result<()> {
     let alloc = rt.alloc();
+    let rounds = size.rounds(10_000, 10);
     let mut store = Store::new(alloc);
     let Ok(keys) = keys_of(alloc) else {
-        return Ok(());
+        return Err(no_memory());
     };
     let Ok(map) = map_of(alloc, &keys) else {
-        return Ok(());
+        return Err(no_memory());
     };
     let Ok(dict) = defined(&mut store, &keys) else {
-        return Ok(());
+        return Err(no_memory());
     };
-    let start = Instant::now(&rt)?;
-    let found = found_in_dictionary(&store, dict, &keys);
-    let in_dictionary = start.elapsed(&rt)?;
-    let start = Instant::now(&rt)?;
-    let found_too = found_in_map(&map, &keys);
-    let in_map = start.elapsed(&rt)?;
-    println!(rt; "{found} found in the dictionary, {found_too} in the map")?;
-    if env::args(&rt)?.count() > 1 {
-        let dictionary_time = in_dictionary.as_millis();
-        let map_time = in_map.as_millis();
-        println!(rt; "{dictionary_time} ms in the dictionary, {map_time} ms in the map")?;
-    }
+    let start = Instant::now(rt)?;
+    let found = found_in_dictionary(&store, dict, &keys, rounds);
+    let in_dictionary = start.elapsed(rt)?.as_millis();
+    let start = Instant::now(rt)?;
+    let found_too = found_in_map(&map, &keys, rounds);
+    let in_map = start.elapsed(rt)?.as_millis();
+    println!(rt; "store: {found} found in the dictionary, {found_too} in the map")?;
+    eprintln!(rt; "store: {in_dictionary} ms in the dictionary, {in_map} ms in the map")?;
     Ok(())
 }

@@ -1,16 +1,14 @@
-//! How fast dashed curves are outlined: ten thousand curves of 16 pieces, a thousand a path.
-//!
-//! Standard output has the numbers of polygons and discs and a sum of their coordinates, standard
-//! error the microseconds of all outlines. Flattening isn't timed.
-#![tactic(auto)]
+//! How fast dashed curves are outlined: ten thousand curves of 16 pieces, a thousand a path. Flattening isn't
+//! timed.
 
 ghost use Rattle.std.specs.Prelude.{◌≤◌};
 ghost use Rattle.geo_stroke.specs.Pen.{IsDash};
 
-use geo_path::{Lines, Path, PathFault};
+use crate::no_memory;
+use geo_path::{Path, PathFault, Polylines};
 use geo_stroke::{Cap, Dashes, Join, Pen, outline};
-use page_model::{Shape, Shapes};
-use press_fault::{Grow, Point};
+use page_model::{Shape, Shapes, point};
+use press_fault::Grow;
 use press_nums::Fix;
 use std::alloc::Global;
 use std::io;
@@ -19,10 +17,6 @@ use std::time::Instant;
 const PATHS: u16 = 10;
 
 const CURVES: u16 = 1_000;
-
-fn point(x: i32, y: i32) -> Point {
-    Point::new(i64::from(x), i64::from(y))
-}
 
 /// Adds a curve of 50,000 to 60,000 sub-dots along its control points.
 fn add_curve(path: &mut Path, k: u16) -> Result<(), PathFault> {
@@ -36,7 +30,7 @@ fn add_curve(path: &mut Path, k: u16) -> Result<(), PathFault> {
 }
 
 /// A path of curves from the `first` on, as straight lines.
-fn sample(alloc: Global, first: u16) -> Result<Lines, PathFault>
+fn sample(alloc: Global, first: u16) -> Result<Polylines, PathFault>
     requires { first ≤ 9000 }
 {
     let mut path = Path::new(alloc);
@@ -120,7 +114,9 @@ fn cap_of(path: u16) -> Cap {
     }
 }
 
-fn main(rt: HostRuntime) -> io::Result<()> {
+/// Prints the numbers of polygons and discs and a sum of their coordinates, and the microseconds of all
+/// outlines.
+pub(crate) fn run(rt: &HostRuntime) -> io::Result<()> {
     let alloc = rt.alloc();
     let mut sums = Sums {
         polygons: 0,
@@ -130,13 +126,13 @@ fn main(rt: HostRuntime) -> io::Result<()> {
     let mut micros: u128 = 0;
     for path in 0..PATHS {
         let (Ok(lines), Ok(pen)) = (sample(alloc, path * CURVES), pen(alloc, cap_of(path))) else {
-            return Ok(());
+            return Err(no_memory());
         };
-        let start = Instant::now(&rt)?;
+        let start = Instant::now(rt)?;
         let Ok(shapes) = outline(alloc, &lines, &pen) else {
-            return Ok(());
+            return Err(no_memory());
         };
-        micros = micros.saturating_add(start.elapsed(&rt)?.as_micros());
+        micros = micros.saturating_add(start.elapsed(rt)?.as_micros());
         sums.add_all(&shapes);
     }
     let Sums {
@@ -144,7 +140,7 @@ fn main(rt: HostRuntime) -> io::Result<()> {
         discs,
         sum,
     } = sums;
-    println!(rt; "{polygons} polygons, {discs} discs, sum {sum}")?;
-    eprintln!(rt; "{micros}")?;
+    println!(rt; "stroke: {polygons} polygons, {discs} discs, sum {sum}")?;
+    eprintln!(rt; "stroke: {micros} us")?;
     Ok(())
 }
