@@ -15,7 +15,7 @@ use crate::subpath::Subpath;
 use geo_matrix::Matrix;
 use press_fault::{Mem, NoMemory, Point};
 use press_nums::Fix;
-use std::alloc::Global;
+use std::alloc::{AllocError, Global};
 use std::marker::Model;
 
 /// The most points of a path.
@@ -45,6 +45,17 @@ impl From<NoMemory> for PathFault {
     }
 }
 
+impl From<AllocError> for PathFault {
+    ghost use Rattle.std.specs.Prelude.{◌≡◌};
+    ghost use Rattle.geo_path.specs.declared.path.PathFault.TheVariants.{NoMemory};
+
+    ghost from_gives = { λ _ e. e ≡ NoMemory };
+
+    fn from(_: AllocError) -> PathFault {
+        PathFault::NoMemory
+    }
+}
+
 /// Subpaths of lines and curves, each point of a magnitude below 2^31 sub-dots.
 ///
 /// It has at most 65,536 points, where a curve counts three. After a refusal it is as before.
@@ -65,6 +76,24 @@ impl Model for Path {
     ghost invariant = { λ p. HasCount p.count p.parts };
 }
 
+/// A path of its own with the same subpaths, as `Arc::make_mut` makes one of a shared path.
+impl Clone for Path {
+    ghost use Rattle.std.specs.Prelude.{◌≡◌};
+
+    ghost is_clone = { λ path copy. copy ≡ path };
+
+    fn clone(&self) -> Result<Path, AllocError> {
+        let Ok(parts) = self.parts.duplicate(self.alloc) else {
+            return Err(AllocError);
+        };
+        Ok(Path {
+            parts,
+            count: self.count,
+            alloc: self.alloc,
+        })
+    }
+}
+
 impl Path {
     /// The path without subpaths.
     pub fn new(alloc: Global) -> Path
@@ -75,17 +104,6 @@ impl Path {
             count: 0,
             alloc,
         }
-    }
-
-    /// A path of its own with the same subpaths, for a holder that shares this one.
-    pub fn duplicate(&self) -> Mem<Path>
-        ensures { IfOk result (λ path. path ≡ self.now) }
-    {
-        Ok(Path {
-            parts: self.parts.duplicate(self.alloc)?,
-            count: self.count,
-            alloc: self.alloc,
-        })
     }
 
     /// Whether there is no point.

@@ -364,7 +364,7 @@ fn an_arc_answers_its_first_refusal(rt: HostRuntime) -> Result<(), Fail> {
 
 /// Whether there is room for what a letter adds to the path, and else it is as it was.
 fn has_room(path: &Path, letters: &str) -> Result<bool, PathFault> {
-    let mut full = path.duplicate()?;
+    let mut full = path.clone()?;
     for letter in letters.as_bytes() {
         match add(&mut full, *letter) {
             Ok(()) => {}

@@ -1,2 +1,3 @@
 pub mod SavedLemmas
 pub mod PointLemmas
+pub mod ClipLemmas

@@ -1,2 +1,1 @@
-pub mod Clipped
-pub mod Held
+pub mod Shared

@@ -36,21 +36,24 @@ pub record PageSize : Type 0 where
   pub height : ℕ
   pub res : ℕ
 
--- one graphics state: the current transformation matrix, the colour space, the colour's codes, the path, the clip and
--- the line parameters
+-- one graphics state: the current transformation matrix, the colour space, the colour's codes, the path, the clip with
+-- its number, if it has one, and the line parameters
 pub record StateValue : Type 0 where
   pub matrix : MatrixValue
   pub space : Space
   pub code : CodeValue
   pub path : PathValue
   pub clip : List RegionValue
+  pub clip_number : Option ℕ
   pub line : LineStyleValue
 
--- the page's size, the current state, its saved copies (the last one saved first), and the marks of the page so far
+-- the page's size, the current state, its saved copies (the last one saved first), how many clips were given a number,
+-- and the marks of the page so far
 pub record GfxValue : Type 0 where
   pub size : PageSize
   pub state : StateValue
   pub saved : List StateValue
+  pub clips : ℕ
   pub marks : List MarkValue
 
 -- dots for each point of 1/72 inch, as a raw number
@@ -81,12 +84,13 @@ initial_state size = record {
   path =
       no_path;
   clip = [];
+  clip_number = Some 0;
   line = initial_line;
 }
 
 -- a blank page, as a program finds it, with what `initgraphics` sets and no saved state
 abbrev pub opening : PageSize → GfxValue
-opening size = record { size = size; state = initial_state size; saved = []; marks = [] }
+opening size = record { size = size; state = initial_state size; saved = []; clips = 0; marks = [] }
 
 -- From here on each call is written as `record g { .. }`: what it doesn't name stays as it is.
 
@@ -170,9 +174,20 @@ with_miter g limit = if int_lt limit (pos 65536) then None
 abbrev pub with_dash : GfxValue → List ℤ → ℤ → GfxValue
 with_dash g dashes offset = with_line g (record g.state.line { dashes = dashes; offset = offset })
 
--- with another clip
+-- the number of the next clip, 0 being that of the whole page; none once 4,294,967,295 are given
+abbrev pub next_number : ℕ → Option ℕ
+next_number clips = if nat_lt clips 4294967295 then Some (clips + 1) else None
+
+-- how many clips were given a number, with the next clip
+abbrev pub next_count : ℕ → ℕ
+next_count clips = if nat_lt clips 4294967295 then clips + 1 else clips
+
+-- with another clip, which takes the next number
 abbrev pub with_clip : GfxValue → List RegionValue → GfxValue
-with_clip g clip = with_state g (record g.state { clip = clip })
+with_clip g clip = record g {
+  state = record g.state { clip = clip; clip_number = next_number g.clips };
+  clips = next_count g.clips;
+}
 
 -- a path as a region of a clip: the rings of its subpaths
 abbrev pub region_of : Rule → PathValue → RegionValue
@@ -191,7 +206,7 @@ clipped g rule = clipped_to g rule g.state.path
 
 -- with the whole page as the clip: no regions
 abbrev pub with_initial_clip : GfxValue → GfxValue
-with_initial_clip g = with_clip g []
+with_initial_clip g = with_state g (record g.state { clip = []; clip_number = Some 0 })
 
 -- with a copy of the current state saved, at most 32
 abbrev pub saved_state : GfxValue → Option GfxValue
@@ -229,6 +244,7 @@ mark_with state rule shapes = record {
   rule = rule;
   shapes = shapes;
   clip = state.clip;
+  clip_number = state.clip_number;
   paint =
       Flatly (Plain state.code);
 }

@@ -2,7 +2,7 @@
 ghost use Rattle.std.specs.Prelude.{◌≡◌, ◌≤◌, ◌↔◌, ◌∷◌, ◌++◌, [], length, nat_lt, Some, None, OnOk, OnErr, IfOk};
 ghost use Rattle.std.specs.Prelude.{IsErrOf};
 ghost use Rattle.std.specs.Arc.{arc_value};
-ghost use Rattle.gfx_state.specs.Graphics.{clipped, clipped_to, with_initial_clip, region_of};
+ghost use Rattle.gfx_state.specs.Graphics.{clipped, clipped_to, with_clip, with_initial_clip, region_of};
 
 use crate::gfx::Gfx;
 use geo_path::Path;
@@ -25,7 +25,7 @@ impl Gfx {
         ensures err { OnErr result (self.new ≡ self.old) }
     {
         let clip = self.cut_clip(rule, self.path())?;
-        self.state.put_clip(clip);
+        self.put_clip(clip);
         Ok(())
     }
 
@@ -37,7 +37,7 @@ impl Gfx {
         ensures err { OnErr result (self.new ≡ self.old) }
     {
         let clip = self.cut_clip(rule, path)?;
-        self.state.put_clip(clip);
+        self.put_clip(clip);
         Ok(())
     }
 
@@ -47,6 +47,15 @@ impl Gfx {
         ensures { result ≡ nat_lt (length self.now.state.clip) 256 }
     {
         self.state.regions() < REGIONS
+    }
+
+    /// Sets another clip, which takes the next number.
+    fn put_clip(&mut self, clip: Arc<Clip>)
+        ensures { self.new ≡ with_clip self.old (arc_value clip) }
+    {
+        let number = self.clips.checked_add(1);
+        self.clips = number.unwrap_or(self.clips);
+        self.state.put_clip(clip, number);
     }
 
     /// The clip with one more region.
@@ -68,6 +77,7 @@ impl Gfx {
         ensures { self.new ≡ with_initial_clip self.old }
     {
         self.state.clip = None;
+        self.state.clip_number = Some(0);
     }
 }
 

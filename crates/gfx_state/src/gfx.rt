@@ -6,10 +6,10 @@ ghost use Rattle.gfx_state.specs.Keeping.{IsPageSize};
 ghost use Rattle.gfx_state.specs.Colour.{channels_of, gray_of};
 
 use crate::colour::{Space, codes, gray};
-use crate::held::HeldPath;
 use crate::line_style::LineStyle;
 use crate::state::{SAVED, Saved, State};
 use geo_matrix::Matrix;
+use geo_path::Path;
 use page_model::{Clip, Marks, Page};
 use press_fault::{Code, Grow, Mem};
 use press_nums::{Fix, Wide, fix_small};
@@ -26,16 +26,20 @@ pub struct Gfx {
     pub(crate) height: u32,
     pub(crate) res: u32,
     pub(crate) no_clip: Arc<Clip>,
+    /// What is read as the path of a state that holds none.
+    pub(crate) empty_path: Path,
     pub(crate) state: State,
     saved: Saved,
+    /// How many clips were given a number.
+    pub(crate) clips: u32,
     pub(crate) marks: Marks,
     pub(crate) points: u64,
 }
 
 impl Model for Gfx {
-    ghost use Rattle.gfx_state.specs.Graphics.{GfxValue};
+    ghost use Rattle.gfx_state.specs.Graphics.{GfxValue, no_path};
     ghost use Rattle.std.specs.Prelude.{◌≡◌, []};
-    ghost use Rattle.gfx_state.specs.Keeping.{IsGfxKept};
+    ghost use Rattle.gfx_state.specs.Keeping.{IsGfxKept, AreClipsNumbered};
 
     ghost Value = { GfxValue };
 
@@ -43,10 +47,13 @@ impl Model for Gfx {
       size = record { width = g.width; height = g.height; res = g.res };
       state = g.state;
       saved = g.saved;
+      clips = g.clips;
       marks = g.marks;
     } };
 
-    ghost invariant = { λ g. IsGfxKept g.width g.height g.res g.marks g.points × (g.no_clip.value ≡ []) };
+    ghost invariant = { λ g. IsGfxKept g.width g.height g.res g.marks g.points
+        × (g.no_clip.value ≡ []) × (g.empty_path ≡ no_path)
+        × AreClipsNumbered g.clips g.state.clip_number g.state.clip g.saved g.marks };
 }
 
 impl Gfx {
@@ -62,8 +69,10 @@ impl Gfx {
             height,
             res,
             no_clip,
-            state: initial(alloc, height, res),
+            empty_path: Path::new(alloc),
+            state: initial(height, res),
             saved: Saved::new(alloc),
+            clips: 0,
             marks: Marks::new(alloc),
             points: 0,
         })
@@ -73,7 +82,7 @@ impl Gfx {
     pub fn initial(&mut self)
         ensures { self.new ≡ with_initial self.old }
     {
-        self.state = initial(self.alloc, self.height, self.res);
+        self.state = initial(self.height, self.res);
     }
 
     /// Drops the marks of the page.
@@ -145,7 +154,6 @@ impl Gfx {
         if self.saved.len() >= SAVED {
             return Err(Grow::LimitCheck);
         }
-        self.state.path.share()?;
         let copy = self.state.copy()?;
         self.saved.push(copy)?;
         Ok(())
@@ -189,7 +197,7 @@ impl Gfx {
 }
 
 /// What `initgraphics` sets.
-fn initial(alloc: Global, height: u32, res: u32) -> State
+fn initial(height: u32, res: u32) -> State
     requires height { height ≤ 16384 }
     requires res { res ≤ 2400 }
     ensures { (width : ℕ) → result ≡ initial_state (record { width = width; height = height; res = res }) }
@@ -198,8 +206,9 @@ fn initial(alloc: Global, height: u32, res: u32) -> State
         matrix: default_matrix(height, res),
         space: Space::Gray,
         code: Space::Gray.first_colour(),
-        path: HeldPath::new(alloc),
+        path: None,
         clip: None,
+        clip_number: Some(0),
         line: LineStyle::initial(),
     }
 }

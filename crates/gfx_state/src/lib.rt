@@ -10,7 +10,6 @@
 mod clips;
 mod colour;
 mod gfx;
-mod held;
 mod line_style;
 mod lines;
 mod marks;

@@ -126,6 +126,7 @@ fn flat_mark(rule: Rule, shapes: Arc<Shapes>, state: &State, no_clip: &Arc<Clip>
         rule,
         shapes,
         clip: state.clip_or(no_clip)?,
+        clip_number: state.clip_number,
         paint: Paint::Flat(Ink::Plain(state.code)),
     })
 }

@@ -6,22 +6,27 @@ ghost use Rattle.gfx_state.specs.Graphics.{no_path, with_path, with_answer};
 
 use crate::gfx::Gfx;
 use geo_path::{Path, PathFault};
-use press_fault::{Mem, Point};
+use press_fault::{Mem, NoMemory, Point};
 use press_nums::Fix;
+use std::mem;
+use std::sync::Arc;
 
 impl Gfx {
     /// The current path, in sub-dots.
     pub fn path(&self) -> &Path
         ensures { result.now ≡ self.now.state.path }
     {
-        self.state.path.path()
+        match &self.state.path {
+            Some(path) => path,
+            None => &self.empty_path,
+        }
     }
 
     /// Empties the path.
     pub fn new_path(&mut self)
         ensures { self.new ≡ with_path self.old no_path }
     {
-        self.state.path.put(Path::new(self.alloc));
+        self.state.path = None;
     }
 
     /// Sets the path, and gives the one that was there.
@@ -30,9 +35,14 @@ impl Gfx {
         ensures new { OnOk result (self.new ≡ with_path self.old path) }
         ensures err { OnErr result (self.new ≡ self.old) }
     {
-        let before = self.state.path.take()?;
-        self.state.path.put(path);
-        Ok(before)
+        let alloc = self.alloc;
+        let mut own = self.state.take_path(alloc)?;
+        let before = match Arc::make_mut(&mut own) {
+            Ok(own) => Ok(mem::replace(own, path)),
+            Err(_) => Err(NoMemory),
+        };
+        self.state.path = Some(own);
+        before
     }
 
     /// Starts a subpath.
@@ -44,9 +54,13 @@ impl Gfx {
         ensures err { OnErr result (self.new ≡ self.old) }
     {
         self.path().check_move(p)?;
-        let mut path = self.state.path.take()?;
-        let answer = path.move_to(p);
-        self.state.path.put(path);
+        let alloc = self.alloc;
+        let mut own = self.state.take_path(alloc)?;
+        let answer = match Arc::make_mut(&mut own) {
+            Ok(path) => path.move_to(p),
+            Err(_) => Err(PathFault::NoMemory),
+        };
+        self.state.path = Some(own);
         answer
     }
 
@@ -59,9 +73,13 @@ impl Gfx {
         ensures err { OnErr result (self.new ≡ self.old) }
     {
         self.path().check_line(p)?;
-        let mut path = self.state.path.take()?;
-        let answer = path.line_to(p);
-        self.state.path.put(path);
+        let alloc = self.alloc;
+        let mut own = self.state.take_path(alloc)?;
+        let answer = match Arc::make_mut(&mut own) {
+            Ok(path) => path.line_to(p),
+            Err(_) => Err(PathFault::NoMemory),
+        };
+        self.state.path = Some(own);
         answer
     }
 
@@ -74,9 +92,13 @@ impl Gfx {
         ensures err { OnErr result (self.new ≡ self.old) }
     {
         self.path().check_curve(p, q, r)?;
-        let mut path = self.state.path.take()?;
-        let answer = path.curve_to(p, q, r);
-        self.state.path.put(path);
+        let alloc = self.alloc;
+        let mut own = self.state.take_path(alloc)?;
+        let answer = match Arc::make_mut(&mut own) {
+            Ok(path) => path.curve_to(p, q, r),
+            Err(_) => Err(PathFault::NoMemory),
+        };
+        self.state.path = Some(own);
         answer
     }
 
@@ -85,10 +107,17 @@ impl Gfx {
         ensures ok { OnOk result (self.new ≡ with_path self.old (closed self.old.state.path)) }
         ensures err { OnErr result (self.new ≡ self.old) }
     {
-        let mut path = self.state.path.take()?;
-        path.close();
-        self.state.path.put(path);
-        Ok(())
+        let alloc = self.alloc;
+        let mut own = self.state.take_path(alloc)?;
+        let answer = match Arc::make_mut(&mut own) {
+            Ok(path) => {
+                path.close();
+                Ok(())
+            }
+            Err(_) => Err(NoMemory),
+        };
+        self.state.path = Some(own);
+        answer
     }
 
     /// Adds an arc of a circle round the user point (x, y), as the current matrix maps it.
@@ -114,9 +143,34 @@ impl Gfx {
     {
         self.path()
             .check_arc(&self.state.matrix, x, y, r, from, to, clockwise)?;
-        let mut path = self.state.path.take()?;
-        let answer = path.arc(&self.state.matrix, x, y, r, from, to, clockwise);
-        self.state.path.put(path);
+        self.add_arc(x, y, r, from, to, clockwise)
+    }
+
+    /// Adds an arc where nothing but memory can refuse it: apart from the check, since the prover
+    /// doesn't find its way through both at once.
+    fn add_arc(
+        &mut self,
+        x: Fix,
+        y: Fix,
+        r: Fix,
+        from: Fix,
+        to: Fix,
+        clockwise: bool,
+    ) -> Result<(), PathFault>
+        ensures ok { OnOk result (with_answer self.old
+            (arc_of self.old.state.path self.old.state.matrix x y r from to clockwise) ≡ Ok self.new) }
+        ensures cause { IfErr result
+            (λ fault. fault ≢ PathFault.NoMemory →
+            arc_of self.old.state.path self.old.state.matrix x y r from to clockwise ≡ Err fault) }
+        ensures err { OnErr result (self.new ≡ self.old) }
+    {
+        let (alloc, matrix) = (self.alloc, self.state.matrix);
+        let mut own = self.state.take_path(alloc)?;
+        let answer = match Arc::make_mut(&mut own) {
+            Ok(path) => path.arc(&matrix, x, y, r, from, to, clockwise),
+            Err(_) => Err(PathFault::NoMemory),
+        };
+        self.state.path = Some(own);
         answer
     }
 }

@@ -1,36 +1,40 @@
 //! One graphics state.
 ghost use Rattle.std.specs.Prelude.{◌≡◌, ◌∷◌, [], IfOk, OnOk, OnErr, MatchOption, length};
 ghost use Rattle.std.specs.Arc.{arc_value};
-ghost use Rattle.gfx_state.specs.Code.Clipped.{regions_of};
-ghost use Rattle.gfx_state.specs.Graphics.{first_saved, only_first};
+ghost use Rattle.gfx_state.specs.Code.Shared.{regions_of, path_of};
+ghost use Rattle.gfx_state.specs.Graphics.{no_path, first_saved, only_first};
 
 use crate::clips::copy_clip;
 use crate::colour::Space;
-use crate::held::HeldPath;
 use crate::line_style::LineStyle;
 use geo_matrix::Matrix;
+use geo_path::Path;
 use page_model::Clip;
 use press_fault::{Code, Mem};
 use std::alloc::Global;
 use std::marker::Model;
 use std::sync::Arc;
 
-/// A graphics state. Its clip is shared, and its path once `share` was called on it, so that a copy
-/// takes no more memory.
+/// A graphics state. Its copies share its path, its clip and its dashes, so that a copy takes no
+/// more memory.
 #[derive(Drop)]
 pub(crate) struct State {
     pub(crate) matrix: Matrix,
     pub(crate) space: Space,
     pub(crate) code: Code,
-    pub(crate) path: HeldPath,
+    /// `None` where the path has no subpaths, so that `newpath` takes no memory. A shared one is
+    /// copied before the first change.
+    pub(crate) path: Option<Arc<Path>>,
     /// `None` where the clip has no regions, so that setting it takes no memory.
     pub(crate) clip: Option<Arc<Clip>>,
+    /// States and marks that have the same number have the same clip.
+    pub(crate) clip_number: Option<u32>,
     pub(crate) line: LineStyle,
 }
 
 impl Model for State {
     ghost use Rattle.gfx_state.specs.Graphics.{StateValue};
-    ghost use Rattle.gfx_state.specs.Code.Clipped.{regions_of};
+    ghost use Rattle.gfx_state.specs.Code.Shared.{regions_of, path_of};
 
     ghost Value = { StateValue };
 
@@ -38,9 +42,10 @@ impl Model for State {
       matrix = s.matrix;
       space = s.space;
       code = s.code;
-      path = s.path;
+      path = path_of s.path;
       clip =
           regions_of s.clip;
+      clip_number = s.clip_number;
       line = s.line;
     } };
 }
@@ -53,10 +58,23 @@ impl State {
             matrix: self.matrix,
             space: self.space,
             code: self.code,
-            path: self.path.copy()?,
+            path: shared_path(&self.path)?,
             clip: shared(&self.clip)?,
+            clip_number: self.clip_number,
             line: self.line.copy()?,
         })
+    }
+
+    /// Takes the path out to change it.
+    pub(crate) fn take_path(&mut self, alloc: Global) -> Mem<Arc<Path>>
+        ensures ok { IfOk result (λ path. arc_value path ≡ self.old.path) }
+        ensures rest { OnOk result (self.new ≡ record self.old { path = no_path }) }
+        ensures err { OnErr result (self.new ≡ self.old) }
+    {
+        match self.path.take() {
+            Some(path) => Ok(path),
+            None => Ok(Arc::new(alloc, Path::new(alloc))?),
+        }
     }
 
     /// How many regions the clip has.
@@ -79,10 +97,11 @@ impl State {
         }
     }
 
-    pub(crate) fn put_clip(&mut self, clip: Arc<Clip>)
-        ensures { self.new ≡ record self.old { clip = arc_value clip } }
+    pub(crate) fn put_clip(&mut self, clip: Arc<Clip>, number: Option<u32>)
+        ensures { self.new ≡ record self.old { clip = arc_value clip; clip_number = number } }
     {
         self.clip = Some(clip);
+        self.clip_number = number;
     }
 
     /// Another owner of the clip, or of one without regions where there are none.
@@ -103,6 +122,16 @@ fn shared(clip: &Option<Arc<Clip>>) -> Mem<Option<Arc<Clip>>>
 {
     match clip {
         Some(clip) => Ok(Some(Arc::try_clone(clip)?)),
+        None => Ok(None),
+    }
+}
+
+/// Another owner of a path.
+fn shared_path(path: &Option<Arc<Path>>) -> Mem<Option<Arc<Path>>>
+    ensures { IfOk result (λ copy. path_of copy ≡ path_of path.now) }
+{
+    match path {
+        Some(path) => Ok(Some(Arc::try_clone(path)?)),
         None => Ok(None),
     }
 }

@@ -1,5 +1,5 @@
 -- The bands of a page, from the top, are its rows.
-use Rattle.std.proofs.Common.{◌≡◌, ◌+◌, ◌*◌, ◌-◌, ◌<◌, ◌≤◌, ◌++◌, ◌∙◌, ap, sym, refl, subst, ℕ, zero, suc, List, []}
+use Rattle.std.proofs.Common.{◌≡◌, ◌+◌, ◌*◌, ◌-◌, ◌<◌, ◌≤◌, ◌++◌, ◌∙◌, ap, refl, subst, ℕ, zero, suc, List}
 use Rattle.std.proofs.Common.{inl, inr, arith}
 use Rattle.std.specs.Prelude.{min, ◌/◌}
 use Rattle.std.specs.List.{flat_map, range_with_len}

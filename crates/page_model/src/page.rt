@@ -11,7 +11,8 @@ pub enum Depth {
 /// A page: its size in dots, how many source profiles its codes go by, and its marks.
 ///
 /// A side has at most 16,384 dots and the page 67,108,864; there are at most 1,000,000 marks,
-/// and each source number in a mark is below `sources`.
+/// and each source number in a mark is below `sources`. Marks with the same clip number have the
+/// same clip.
 #[derive(Drop)]
 pub struct Page {
     pub width: u32,

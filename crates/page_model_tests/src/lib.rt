@@ -86,7 +86,8 @@ fn block(alloc: Global, from: u8, to: u8) -> Mem<Shape> {
 
 /// A mark of one shape in an ink.
 fn filled(alloc: Global, rule: Rule, shape: Shape, clip: Clip, ink: Ink) -> Mem<Mark>
-    ensures { IfOk result (λ mark. mark.paint ≡ Flatly ink) }
+    ensures paint { IfOk result (λ mark. mark.paint ≡ Flatly ink) }
+    ensures number { IfOk result (λ mark. mark.clip_number ≡ None) }
 {
     let mut shapes = Shapes::new(alloc);
     shapes.push(shape)?;
@@ -94,11 +95,13 @@ fn filled(alloc: Global, rule: Rule, shape: Shape, clip: Clip, ink: Ink) -> Mem<
         rule,
         shapes: Arc::new(alloc, shapes)?,
         clip: Arc::new(alloc, clip)?,
+        clip_number: None,
         paint: Paint::Flat(ink),
     })
 }
 
-/// A page of two marks.
+/// A page of two marks, whose clips have no numbers.
+#[tactic(auto, using(crate::proofs::Unnumbered::unnumbered))]
 fn page(alloc: Global, width: u32, height: u32, below: Mark, above: Mark) -> Mem<Page>
     requires width { width ≤ 9 }
     requires height { height ≤ 9 }
@@ -106,6 +109,8 @@ fn page(alloc: Global, width: u32, height: u32, below: Mark, above: Mark) -> Mem
     requires above_source { HasKnownSource 2 above }
     requires below_channels { HasChannels (λ _. 3) below }
     requires above_channels { HasChannels (λ _. 3) above }
+    requires below_number { below.clip_number ≡ None }
+    requires above_number { above.clip_number ≡ None }
     ensures { IfOk result (λ page. (page.sources ≡ 2) × All (HasChannels (λ _. 3)) page.marks) }
 {
     let mut marks = Marks::new(alloc);
@@ -133,6 +138,7 @@ const RED: Ink = Ink::Plain(Code {
 fn nothing(alloc: Global) -> Mem<Mark>
     ensures source { IfOk result (HasKnownSource 2) }
     ensures channels { IfOk result (HasChannels (λ _. 3)) }
+    ensures number { IfOk result (λ mark. mark.clip_number ≡ None) }
 {
     let shape = Shape::Poly(Rings::new(alloc));
     filled(alloc, Rule::Nonzero, shape, Clip::new(alloc), BLACK)
@@ -144,6 +150,7 @@ fn shown(alloc: Global, width: u32, height: u32, mark: Mark) -> Mem<Vec<u8>>
     requires height { height ≤ 9 }
     requires source { HasKnownSource 2 mark }
     requires channels { HasChannels (λ _. 3) mark }
+    requires number { mark.clip_number ≡ None }
 {
     let page = page(alloc, width, height, nothing(alloc)?, mark)?;
     letters(alloc, &page)
@@ -275,12 +282,14 @@ fn gray_row(alloc: Global, codes: &[u8], source: Option<u32>, map: ImageMap) -> 
 /// The mark of an image or a mask.
 fn placed(alloc: Global, paint: Paint) -> Mem<Mark>
     requires { IsSuited [] (painting_of paint) }
-    ensures { IfOk result (λ mark. mark.paint ≡ painting_of paint) }
+    ensures paint { IfOk result (λ mark. mark.paint ≡ painting_of paint) }
+    ensures number { IfOk result (λ mark. mark.clip_number ≡ None) }
 {
     Ok(Mark {
         rule: Rule::Nonzero,
         shapes: Arc::new(alloc, Shapes::new(alloc))?,
         clip: Arc::new(alloc, Clip::new(alloc))?,
+        clip_number: None,
         paint,
     })
 }
