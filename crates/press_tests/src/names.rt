@@ -32,6 +32,7 @@ fn names_print_as_in_the_reference(rt: HostRuntime) {
     let cases = [
         (PsName::StackUnderflow, "stackunderflow"),
         (PsName::NoCurrentPoint, "nocurrentpoint"),
+        (PsName::InvalidFont, "invalidfont"),
         (PsName::Timeout, "timeout"),
     ];
     for (name, text) in cases {

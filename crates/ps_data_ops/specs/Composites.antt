@@ -4,13 +4,7 @@
 use Rattle.std.specs.Prelude.{ℕ, ℤ, pos, ◌+◌, false, ◌&&◌, List, [], ◌∷◌, ◌++◌, Option, Some, None, length, reverse}
 use Rattle.std.specs.Prelude.{take, drop, int_le, nat_le, unsigned_abs, if◌then◌else◌}
 use Rattle.std.specs.List.{position_from}
-use Rattle.press_fault.specs.declared.names.PsName.TheVariants.{StackUnderflow, StackOverflow, TypeCheck, LimitCheck}
-use Rattle.press_fault.specs.declared.names.PsName.TheVariants.{UnmatchedMark}
-use Rattle.press_fault.specs.declared.refusals.Grow.{Grow}
-use Rattle.press_fault.specs.declared.refusals.Grow.TheVariants.{LimitCheck as LimitCheckOfStore}
-use Rattle.press_fault.specs.declared.refusals.Grow.TheVariants.{NoMemory as NoMemoryOfStore}
-use Rattle.ps_store.specs.declared.fault.OpFault.{OpFault}
-use Rattle.ps_store.specs.declared.fault.OpFault.TheVariants.{Ps, NoMemory}
+use Rattle.press_fault.specs.declared.names.PsName.TheVariants.{StackUnderflow, StackOverflow, TypeCheck, UnmatchedMark}
 use Rattle.ps_store.specs.declared.obj.Obj.{Obj}
 use Rattle.ps_store.specs.declared.obj.Obj.TheVariants.{Int, Text, Array, Dict}
 use Rattle.ps_store.specs.declared.obj.Part.{Part}
@@ -24,11 +18,6 @@ use Rattle.ps_store.specs.Copying.{copied_part}
 -- the count that an integer is, where it is not negative
 abbrev pub count_of : ℤ → Option ℕ
 count_of n = if int_le (pos 0) n then Some (unsigned_abs n) else None
-
--- what a store that could not grow is to an operator: limitcheck, or out of memory
-abbrev pub refusal_of : Grow → OpFault
-refusal_of LimitCheckOfStore = Ps LimitCheck
-refusal_of NoMemoryOfStore = NoMemory
 
 -- `array`: a new array of so many nulls; a negative number is rangecheck, then a limit of the store limitcheck
 abbrev pub array_row : List Obj → StoreValue → Outcome OperandsAndStore

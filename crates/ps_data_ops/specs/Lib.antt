@@ -3,3 +3,4 @@ pub mod Composites
 pub mod Dictionaries
 pub mod Reading
 pub mod Rows
+pub mod Calls

@@ -1,10 +1,11 @@
 //! New strings, arrays and dictionaries, and what moves many elements of them.
 ghost use Rattle.std.specs.Prelude.{◌≡◌, ◌≢◌, ◌<◌, length, Err};
 ghost use Rattle.ps_store.specs.Outcome.{Answers, TellsRefusal};
-ghost use Rattle.ps_data_ops.specs.Composites.{count_of, refusal_of, array_row, string_row, dict_row, gathered_row};
+ghost use Rattle.ps_data_ops.specs.Composites.{count_of, array_row, string_row, dict_row, gathered_row};
 ghost use Rattle.ps_data_ops.specs.Composites.{close_array_row, aload_row, astore_row};
+ghost use Rattle.ps_store.specs.Calls.{StoreAnswers};
 
-use press_fault::{Grow, PsName};
+use press_fault::PsName;
 use press_nums::Whole;
 use ps_store::{MAX_OPERANDS, Obj, OpFault, Stack, Store};
 
@@ -16,21 +17,10 @@ fn count_in(n: Whole) -> Option<u32>
     if 0 <= n { Some(n.unsigned_abs()) } else { None }
 }
 
-/// What refuses an operator where the store could not grow.
-pub(crate) fn refusal(fault: Grow) -> OpFault
-    ensures { result ≡ refusal_of fault }
-{
-    match fault {
-        Grow::LimitCheck => OpFault::Ps(PsName::LimitCheck),
-        Grow::NoMemory => OpFault::NoMemory,
-    }
-}
-
 /// `array`: a new array of nulls.
 pub(crate) fn array(stack: &mut Stack, store: &mut Store) -> Result<(), OpFault>
-    ensures answers { Answers (array_row stack.old store.old) result
-        (record { operands = stack.old; store = store.old })
-        (record { operands = stack.new; store = store.new }) }
+    ensures answers { StoreAnswers (array_row stack.old store.old)
+        result stack.old store.old stack.new store.new }
     ensures refused { TellsRefusal (array_row stack.old store.old) result }
 {
     let Some(top) = stack.top() else {
@@ -42,20 +32,15 @@ pub(crate) fn array(stack: &mut Stack, store: &mut Store) -> Result<(), OpFault>
     let Some(len) = count_in(*n) else {
         return Err(OpFault::Ps(PsName::RangeCheck));
     };
-    match store.new_array(len) {
-        Ok(span) => {
-            stack.replace(1, Obj::Array(span, false));
-            Ok(())
-        }
-        Err(fault) => Err(refusal(fault)),
-    }
+    let span = store.new_array(len)?;
+    stack.replace(1, Obj::Array(span, false));
+    Ok(())
 }
 
 /// `string`: a new string of zero bytes.
 pub(crate) fn string(stack: &mut Stack, store: &mut Store) -> Result<(), OpFault>
-    ensures answers { Answers (string_row stack.old store.old) result
-        (record { operands = stack.old; store = store.old })
-        (record { operands = stack.new; store = store.new }) }
+    ensures answers { StoreAnswers (string_row stack.old store.old)
+        result stack.old store.old stack.new store.new }
     ensures refused { TellsRefusal (string_row stack.old store.old) result }
 {
     let Some(top) = stack.top() else {
@@ -67,20 +52,15 @@ pub(crate) fn string(stack: &mut Stack, store: &mut Store) -> Result<(), OpFault
     let Some(len) = count_in(*n) else {
         return Err(OpFault::Ps(PsName::RangeCheck));
     };
-    match store.new_text(len) {
-        Ok(span) => {
-            stack.replace(1, Obj::Text(span));
-            Ok(())
-        }
-        Err(fault) => Err(refusal(fault)),
-    }
+    let span = store.new_text(len)?;
+    stack.replace(1, Obj::Text(span));
+    Ok(())
 }
 
 /// `dict`: a new empty dictionary, which may grow past the size that is asked.
 pub(crate) fn dict(stack: &mut Stack, store: &mut Store) -> Result<(), OpFault>
-    ensures answers { Answers (dict_row stack.old store.old) result
-        (record { operands = stack.old; store = store.old })
-        (record { operands = stack.new; store = store.new }) }
+    ensures answers { StoreAnswers (dict_row stack.old store.old)
+        result stack.old store.old stack.new store.new }
     ensures refused { TellsRefusal (dict_row stack.old store.old) result }
 {
     let Some(top) = stack.top() else {
@@ -92,20 +72,15 @@ pub(crate) fn dict(stack: &mut Stack, store: &mut Store) -> Result<(), OpFault>
     if count_in(*n).is_none() {
         return Err(OpFault::Ps(PsName::RangeCheck));
     }
-    match store.new_dict() {
-        Ok(dict) => {
-            stack.replace(1, Obj::Dict(dict));
-            Ok(())
-        }
-        Err(fault) => Err(refusal(fault)),
-    }
+    let dict = store.new_dict()?;
+    stack.replace(1, Obj::Dict(dict));
+    Ok(())
 }
 
 /// `]`: a new array of the operands above the topmost mark.
 pub(crate) fn close_array(stack: &mut Stack, store: &mut Store) -> Result<(), OpFault>
-    ensures answers { Answers (close_array_row stack.old store.old) result
-        (record { operands = stack.old; store = store.old })
-        (record { operands = stack.new; store = store.new }) }
+    ensures answers { StoreAnswers (close_array_row stack.old store.old)
+        result stack.old store.old stack.new store.new }
     ensures refused { TellsRefusal (close_array_row stack.old store.old) result }
 {
     match stack.depth_of_mark() {
@@ -117,20 +92,15 @@ pub(crate) fn close_array(stack: &mut Stack, store: &mut Store) -> Result<(), Op
 /// Makes an array of the top `len` operands, in place of these and the mark below them.
 fn gather(stack: &mut Stack, store: &mut Store, len: usize) -> Result<(), OpFault>
     requires { len < length stack.old }
-    ensures answers { Answers (gathered_row len stack.old store.old) result
-        (record { operands = stack.old; store = store.old })
-        (record { operands = stack.new; store = store.new }) }
+    ensures answers { StoreAnswers (gathered_row len stack.old store.old)
+        result stack.old store.old stack.new store.new }
     ensures refused { TellsRefusal (gathered_row len stack.old store.old) result }
 {
     let _held = stack.len();
-    match store.new_array(len as u32) {
-        Ok(span) => {
-            store.put_operands(span, stack, 0);
-            stack.replace(len + 1, Obj::Array(span, false));
-            Ok(())
-        }
-        Err(fault) => Err(refusal(fault)),
-    }
+    let span = store.new_array(len as u32)?;
+    store.put_operands(span, stack, 0);
+    stack.replace(len + 1, Obj::Array(span, false));
+    Ok(())
 }
 
 /// `aload`: the elements of an array, in order, and the array.
@@ -156,9 +126,8 @@ pub(crate) fn aload(stack: &mut Stack, store: &Store) -> Result<(), OpFault>
 
 /// `astore`: as many operands as the array has elements become these.
 pub(crate) fn astore(stack: &mut Stack, store: &mut Store) -> Result<(), OpFault>
-    ensures answers { Answers (astore_row stack.old store.old) result
-        (record { operands = stack.old; store = store.old })
-        (record { operands = stack.new; store = store.new }) }
+    ensures answers { StoreAnswers (astore_row stack.old store.old)
+        result stack.old store.old stack.new store.new }
     ensures never { result ≢ Err OpFault.NoMemory }
 {
     let Some(top) = stack.top() else {

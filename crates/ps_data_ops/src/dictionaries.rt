@@ -3,8 +3,8 @@ ghost use Rattle.std.specs.Prelude.{◌≡◌, ◌≢◌, ◌≤◌, length, dro
 ghost use Rattle.ps_store.specs.Outcome.{Answers, TellsRefusal, pushed};
 ghost use Rattle.ps_data_ops.specs.Dictionaries.{define_row, def_row, load_row, known_row, where_row, begin_row};
 ghost use Rattle.ps_data_ops.specs.Dictionaries.{end_row, current, home_row};
+ghost use Rattle.ps_store.specs.Calls.{StoreAnswers};
 
-use crate::composites::refusal;
 use crate::elements::give;
 use crate::values::push;
 use press_fault::PsName;
@@ -82,9 +82,8 @@ fn give_home(stack: &mut Stack, home: Option<u32>) -> Result<(), OpFault>
 
 /// `def`: a value of a key of the dictionary on top.
 pub(crate) fn def(stack: &mut Stack, store: &mut Store, dicts: &Dicts) -> Result<(), OpFault>
-    ensures answers { Answers (def_row stack.old store.old dicts.now) result
-        (record { operands = stack.old; store = store.old })
-        (record { operands = stack.new; store = store.new }) }
+    ensures answers { StoreAnswers (def_row stack.old store.old dicts.now)
+        result stack.old store.old stack.new store.new }
     ensures refused { TellsRefusal (def_row stack.old store.old dicts.now) result }
 {
     let Some((value, key)) = stack.top_two() else {
@@ -104,9 +103,8 @@ pub(crate) fn define(
     value: Obj,
 ) -> Result<(), OpFault>
     requires { n ≤ length stack.old }
-    ensures answers { Answers (define_row store.old dict key value (drop n stack.old)) result
-        (record { operands = stack.old; store = store.old })
-        (record { operands = stack.new; store = store.new }) }
+    ensures answers { StoreAnswers (define_row store.old dict key value (drop n stack.old))
+        result stack.old store.old stack.new store.new }
     ensures refused { TellsRefusal (define_row store.old dict key value (drop n stack.old)) result }
 {
     match key {
@@ -114,13 +112,9 @@ pub(crate) fn define(
             if dict == SYSTEMDICT {
                 return Err(OpFault::Ps(PsName::InvalidAccess));
             }
-            match store.define(dict, key, value) {
-                Ok(()) => {
-                    stack.drop_top(n);
-                    Ok(())
-                }
-                Err(fault) => Err(refusal(fault)),
-            }
+            store.define(dict, key, value)?;
+            stack.drop_top(n);
+            Ok(())
         }
         Err(KeyFault::TooLong) => {
             if dict == SYSTEMDICT {
@@ -145,13 +139,9 @@ pub(crate) fn begin(stack: &mut Stack, dicts: &mut Dicts) -> Result<(), OpFault>
     let Obj::Dict(dict) = top else {
         return Err(OpFault::Ps(PsName::TypeCheck));
     };
-    match dicts.push(*dict) {
-        Ok(()) => {
-            stack.drop_top(1);
-            Ok(())
-        }
-        Err(_) => Err(OpFault::Ps(PsName::DictStackOverflow)),
-    }
+    dicts.push(*dict)?;
+    stack.drop_top(1);
+    Ok(())
 }
 
 /// `end`: the dictionary on top away. `systemdict` and `userdict` stay.
@@ -159,10 +149,8 @@ pub(crate) fn end(dicts: &mut Dicts) -> Result<(), OpFault>
     ensures answers { Answers (end_row dicts.old) result dicts.old dicts.new }
     ensures never { result ≢ Err OpFault.NoMemory }
 {
-    match dicts.pop() {
-        Ok(_) => Ok(()),
-        Err(_) => Err(OpFault::Ps(PsName::DictStackUnderflow)),
-    }
+    dicts.pop()?;
+    Ok(())
 }
 
 /// `currentdict`: the dictionary on top of the dictionary stack.

@@ -5,6 +5,7 @@ ghost use Rattle.ps_store.specs.Outcome.{Answers, TellsRefusal, Goes, or_range};
 ghost use Rattle.ps_store.specs.Numbers.{place_of};
 ghost use Rattle.ps_store.specs.Store.{element};
 ghost use Rattle.ps_data_ops.specs.Dictionaries.{length_row, got, get_row, put_row};
+ghost use Rattle.ps_store.specs.Calls.{StoreAnswers};
 
 use crate::dictionaries::define;
 use press_fault::PsName;
@@ -90,9 +91,8 @@ fn get_at(stack: &mut Stack, store: &Store, i: Whole, span: Part) -> Result<(), 
 /// `put`: an element of an array, a byte of a string, or a value of a key of a dictionary.
 #[tactic(auto, using(crate::proofs::Putting::put_of_other))]
 pub(crate) fn put(stack: &mut Stack, store: &mut Store) -> Result<(), OpFault>
-    ensures answers { Answers (put_row stack.old store.old) result
-        (record { operands = stack.old; store = store.old })
-        (record { operands = stack.new; store = store.new }) }
+    ensures answers { StoreAnswers (put_row stack.old store.old)
+        result stack.old store.old stack.new store.new }
     ensures refused { TellsRefusal (put_row stack.old store.old) result }
 {
     let Some((value, place, whole)) = stack.top_three() else {
@@ -126,9 +126,8 @@ fn put_element(
     mark: bool,
 ) -> Result<(), OpFault>
     requires { stack.old ≡ value ∷ place.now ∷ Obj.Array span mark ∷ drop 3 stack.old }
-    ensures answers { Answers (put_row stack.old store.old) result
-        (record { operands = stack.old; store = store.old })
-        (record { operands = stack.new; store = store.new }) }
+    ensures answers { StoreAnswers (put_row stack.old store.old)
+        result stack.old store.old stack.new store.new }
     ensures never { result ≢ Err OpFault.NoMemory }
 {
     let Obj::Int(i) = place else {
@@ -151,9 +150,8 @@ fn put_byte(
     span: Part,
 ) -> Result<(), OpFault>
     requires { stack.old ≡ value.now ∷ place.now ∷ Obj.Text span ∷ drop 3 stack.old }
-    ensures answers { Answers (put_row stack.old store.old) result
-        (record { operands = stack.old; store = store.old })
-        (record { operands = stack.new; store = store.new }) }
+    ensures answers { StoreAnswers (put_row stack.old store.old)
+        result stack.old store.old stack.new store.new }
     ensures never { result ≢ Err OpFault.NoMemory }
 {
     let (Obj::Int(byte), Obj::Int(i)) = (value, place) else {
@@ -180,9 +178,8 @@ fn put_value(
     dict: u32,
 ) -> Result<(), OpFault>
     requires { stack.old ≡ value ∷ key.now ∷ Obj.Dict dict ∷ drop 3 stack.old }
-    ensures answers { Answers (put_row stack.old store.old) result
-        (record { operands = stack.old; store = store.old })
-        (record { operands = stack.new; store = store.new }) }
+    ensures answers { StoreAnswers (put_row stack.old store.old)
+        result stack.old store.old stack.new store.new }
     ensures refused { TellsRefusal (put_row stack.old store.old) result }
 {
     let key = store.key_of(key);

@@ -2,6 +2,7 @@
 ghost use Rattle.std.specs.Prelude.{◌≡◌, ◌≢◌, ◌≤◌, ◌<◌, ◌+◌, Err, IfSome};
 ghost use Rattle.ps_store.specs.Outcome.{Answers};
 ghost use Rattle.ps_data_ops.specs.Composites.{begin_of, interval_of, part_of, getinterval_row, putinterval_row};
+ghost use Rattle.ps_store.specs.Calls.{StoreAnswers};
 
 use press_fault::PsName;
 use press_nums::Whole;
@@ -81,9 +82,8 @@ pub(crate) fn getinterval(stack: &mut Stack) -> Result<(), OpFault>
 /// `putinterval`: the elements of one array or string into another. Where the two overlap, the
 /// first is read whole before anything is written.
 pub(crate) fn putinterval(stack: &mut Stack, store: &mut Store) -> Result<(), OpFault>
-    ensures answers { Answers (putinterval_row stack.old store.old) result
-        (record { operands = stack.old; store = store.old })
-        (record { operands = stack.new; store = store.new }) }
+    ensures answers { StoreAnswers (putinterval_row stack.old store.old)
+        result stack.old store.old stack.new store.new }
     ensures never { result ≢ Err OpFault.NoMemory }
 {
     let Some((from, at, to)) = stack.top_three() else {

@@ -1,18 +1,16 @@
 //! `>>`: a dictionary of the pairs above a mark.
 ghost use Rattle.std.specs.Prelude.{◌≡◌, ◌≤◌, ◌<◌, [], length, reverse, take, IfOk};
-ghost use Rattle.ps_store.specs.Outcome.{Answers};
 ghost use Rattle.ps_data_ops.specs.Dictionaries.{TellsRefusalBut, close_dict_row, closed_row, is_no_key, lacks_key};
 ghost use Rattle.ps_data_ops.specs.Dictionaries.{entered};
+ghost use Rattle.ps_store.specs.Calls.{StoreAnswers};
 
-use crate::composites::refusal;
 use press_fault::{Mem, PsName};
 use ps_store::{Entries, Key, KeyFault, Obj, OpFault, Stack, Store};
 
 /// `>>`: a new dictionary of the pairs above the topmost mark.
 pub(crate) fn close_dict(stack: &mut Stack, store: &mut Store) -> Result<(), OpFault>
-    ensures answers { Answers (close_dict_row stack.old store.old) result
-        (record { operands = stack.old; store = store.old })
-        (record { operands = stack.new; store = store.new }) }
+    ensures answers { StoreAnswers (close_dict_row stack.old store.old)
+        result stack.old store.old stack.new store.new }
     ensures refused { TellsRefusalBut PsName.LimitCheck (close_dict_row stack.old store.old) result }
 {
     match stack.depth_of_mark() {
@@ -26,9 +24,8 @@ pub(crate) fn close_dict(stack: &mut Stack, store: &mut Store) -> Result<(), OpF
 /// Its entries are put together first, so that a limit refuses them all and leaves the store.
 fn enclose(stack: &mut Stack, store: &mut Store, len: usize) -> Result<(), OpFault>
     requires { len < length stack.old }
-    ensures answers { Answers (closed_row len stack.old store.old) result
-        (record { operands = stack.old; store = store.old })
-        (record { operands = stack.new; store = store.new }) }
+    ensures answers { StoreAnswers (closed_row len stack.old store.old)
+        result stack.old store.old stack.new store.new }
     ensures refused { TellsRefusalBut PsName.LimitCheck (closed_row len stack.old store.old) result }
 {
     if lacks_key(stack, store, len) {
@@ -37,19 +34,13 @@ fn enclose(stack: &mut Stack, store: &mut Store, len: usize) -> Result<(), OpFau
     if len % 2 == 1 {
         return Err(OpFault::Ps(PsName::RangeCheck));
     }
-    let Ok(entries) = entries_of(stack, store, len) else {
-        return Err(OpFault::NoMemory);
-    };
+    let entries = entries_of(stack, store, len)?;
     let Some(entries) = entries else {
         return Err(OpFault::Ps(PsName::LimitCheck));
     };
-    match store.new_dict_of(entries) {
-        Ok(dict) => {
-            stack.replace(len + 1, Obj::Dict(dict));
-            Ok(())
-        }
-        Err(fault) => Err(refusal(fault)),
-    }
+    let dict = store.new_dict_of(entries)?;
+    stack.replace(len + 1, Obj::Dict(dict));
+    Ok(())
 }
 
 /// Whether one of the top `len` operands that stands where a key belongs is none.

@@ -31,9 +31,7 @@ pub(crate) fn readstring(
     if span.len == 0 {
         return Err(OpFault::Ps(PsName::RangeCheck));
     }
-    let Ok(mut bytes) = store.zeros(span.len) else {
-        return Err(OpFault::NoMemory);
-    };
+    let mut bytes = store.zeros(span.len)?;
     let count = file.take(span.len as usize, &mut bytes);
     keep(stack, store, span, count, &bytes);
     Ok(())
@@ -60,9 +58,7 @@ pub(crate) fn readhexstring(
     if span.len == 0 {
         return Err(OpFault::Ps(PsName::RangeCheck));
     }
-    let Ok(mut bytes) = store.zeros(span.len) else {
-        return Err(OpFault::NoMemory);
-    };
+    let mut bytes = store.zeros(span.len)?;
     let count = file.take_hex(&mut bytes);
     keep(stack, store, span, count, &bytes);
     Ok(())

@@ -1,8 +1,9 @@
 //! The call that does a data operator.
 ghost use Rattle.std.specs.Prelude.{◌≡◌, ◌≢◌, true, Err};
-ghost use Rattle.ps_store.specs.Outcome.{Answers, TellsRefusal};
+ghost use Rattle.ps_store.specs.Outcome.{TellsRefusal};
 ghost use Rattle.ps_data_ops.specs.Dictionaries.{TellsRefusalBut};
 ghost use Rattle.ps_data_ops.specs.Rows.{data_row, takes_memory};
+ghost use Rattle.ps_data_ops.specs.Calls.{data_state, DataAnswers};
 
 use crate::composites::{aload, array, astore, close_array, dict, string};
 use crate::dictionaries::{begin, currentdict, def, end, known, load, where_};
@@ -29,15 +30,12 @@ pub fn run_data(
     dicts: &mut Dicts,
     file: &mut Scanner,
 ) -> Result<(), OpFault>
-    ensures answers { Answers (data_row op
-        (record { operands = stack.old; store = store.old; dicts = dicts.old; file = file.old })) result
-        (record { operands = stack.old; store = store.old; dicts = dicts.old; file = file.old })
-        (record { operands = stack.new; store = store.new; dicts = dicts.new; file = file.new }) }
+    ensures answers { DataAnswers (data_row op)
+        result stack.old store.old dicts.old file.old stack.new store.new dicts.new file.new }
     ensures refused { op ≢ DataOp.CloseDict →
-        TellsRefusal (data_row op
-        (record { operands = stack.old; store = store.old; dicts = dicts.old; file = file.old })) result }
-    ensures refused_but_limit { TellsRefusalBut PsName.LimitCheck (data_row op
-        (record { operands = stack.old; store = store.old; dicts = dicts.old; file = file.old })) result }
+        TellsRefusal (data_row op (data_state stack.old store.old dicts.old file.old)) result }
+    ensures refused_but_limit { TellsRefusalBut PsName.LimitCheck
+        (data_row op (data_state stack.old store.old dicts.old file.old)) result }
     ensures memory { result ≡ Err OpFault.NoMemory → takes_memory op ≡ true }
 {
     match op {

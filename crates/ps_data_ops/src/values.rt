@@ -12,10 +12,8 @@ pub(crate) fn push(stack: &mut Stack, o: Obj) -> Result<(), OpFault>
     ensures answers { Answers (pushed o stack.old) result stack.old stack.new }
     ensures never { result ≢ Err OpFault.NoMemory }
 {
-    match stack.push(o) {
-        Ok(()) => Ok(()),
-        Err(_) => Err(OpFault::Ps(PsName::StackOverflow)),
-    }
+    stack.push(o)?;
+    Ok(())
 }
 
 /// `cvx`: the top operand, marked as executable. Only names and arrays carry a mark.

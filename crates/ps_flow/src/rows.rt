@@ -250,9 +250,7 @@ fn forall_elements(
     if flow.is_full() {
         return Err(OpFault::Ps(PsName::ExecStackOverflow));
     }
-    let Ok(items) = contents(flow.alloc(), store, over) else {
-        return Err(OpFault::NoMemory);
-    };
+    let items = contents(flow.alloc(), store, over)?;
     let rest = nothing_of(body);
     let left = Objects::of(items);
     open(stack, flow, 2, Level::Forall { left, body, rest }, None)
@@ -281,9 +279,7 @@ fn forall_entries(stack: &mut Stack, flow: &mut Flow, store: &Store, body: Part,
     if flow.is_full() {
         return Err(OpFault::Ps(PsName::ExecStackOverflow));
     }
-    let Ok(items) = entries(flow.alloc(), store, dict) else {
-        return Err(OpFault::NoMemory);
-    };
+    let items = entries(flow.alloc(), store, dict)?;
     let rest = nothing_of(body);
     let left = Pairs::of(items);
     open(
@@ -359,10 +355,10 @@ fn bind(stack: &Stack, flow: &Flow, store: &mut Store, dicts: &Dicts) -> Then
         return Err(OpFault::Ps(PsName::StackUnderflow));
     };
     match top {
-        Obj::Array(p, true) => match bind_procedure(flow.alloc(), store, dicts, *p) {
-            Ok(()) => Ok(None),
-            Err(_) => Err(OpFault::NoMemory),
-        },
+        Obj::Array(p, true) => {
+            bind_procedure(flow.alloc(), store, dicts, *p)?;
+            Ok(None)
+        }
         _ => Err(OpFault::Ps(PsName::TypeCheck)),
     }
 }

@@ -1,5 +1,6 @@
 pub mod Easel
 pub mod Scene
+pub mod Calls
 pub mod Points
 pub mod States
 pub mod Colours

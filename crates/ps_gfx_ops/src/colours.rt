@@ -1,7 +1,7 @@
 //! Operators on the current colour.
 ghost use Rattle.std.specs.Prelude.{◌≡◌, ◌≢◌, Err};
-ghost use Rattle.ps_store.specs.Outcome.{Answers};
 ghost use Rattle.ps_gfx_ops.specs.Colours.{currentgray_row, setgray_row, setrgbcolor_row, setcmykcolor_row};
+ghost use Rattle.ps_gfx_ops.specs.Calls.{GraphicsAnswers};
 
 use gfx_state::{Gfx, Space};
 use press_fault::PsName;
@@ -9,22 +9,18 @@ use ps_store::{Obj, OpFault, Stack, number};
 
 /// `currentgray`: the gray of the current colour.
 pub(crate) fn currentgray(stack: &mut Stack, gfx: &mut Gfx) -> Result<(), OpFault>
-    ensures answers { Answers (currentgray_row stack.old gfx.old) result
-        (record { operands = stack.old; graphics = gfx.old })
-        (record { operands = stack.new; graphics = gfx.new }) }
+    ensures answers { GraphicsAnswers (currentgray_row stack.old gfx.old)
+        result stack.old gfx.old stack.new gfx.new }
     ensures never { result ≢ Err OpFault.NoMemory }
 {
-    match stack.push(Obj::Real(gfx.gray())) {
-        Ok(()) => Ok(()),
-        Err(_) => Err(OpFault::Ps(PsName::StackOverflow)),
-    }
+    stack.push(Obj::Real(gfx.gray()))?;
+    Ok(())
 }
 
 /// `setgray`: DeviceGray and a colour of it.
 pub(crate) fn setgray(stack: &mut Stack, gfx: &mut Gfx) -> Result<(), OpFault>
-    ensures answers { Answers (setgray_row stack.old gfx.old) result
-        (record { operands = stack.old; graphics = gfx.old })
-        (record { operands = stack.new; graphics = gfx.new }) }
+    ensures answers { GraphicsAnswers (setgray_row stack.old gfx.old)
+        result stack.old gfx.old stack.new gfx.new }
     ensures never { result ≢ Err OpFault.NoMemory }
 {
     let Some(gray) = stack.top() else {
@@ -41,9 +37,8 @@ pub(crate) fn setgray(stack: &mut Stack, gfx: &mut Gfx) -> Result<(), OpFault>
 
 /// `setrgbcolor`: DeviceRGB and a colour of it.
 pub(crate) fn setrgbcolor(stack: &mut Stack, gfx: &mut Gfx) -> Result<(), OpFault>
-    ensures answers { Answers (setrgbcolor_row stack.old gfx.old) result
-        (record { operands = stack.old; graphics = gfx.old })
-        (record { operands = stack.new; graphics = gfx.new }) }
+    ensures answers { GraphicsAnswers (setrgbcolor_row stack.old gfx.old)
+        result stack.old gfx.old stack.new gfx.new }
     ensures never { result ≢ Err OpFault.NoMemory }
 {
     let Some((blue, green, red)) = stack.top_three() else {
@@ -60,9 +55,8 @@ pub(crate) fn setrgbcolor(stack: &mut Stack, gfx: &mut Gfx) -> Result<(), OpFaul
 
 /// `setcmykcolor`: DeviceCMYK and a colour of it.
 pub(crate) fn setcmykcolor(stack: &mut Stack, gfx: &mut Gfx) -> Result<(), OpFault>
-    ensures answers { Answers (setcmykcolor_row stack.old gfx.old) result
-        (record { operands = stack.old; graphics = gfx.old })
-        (record { operands = stack.new; graphics = gfx.new }) }
+    ensures answers { GraphicsAnswers (setcmykcolor_row stack.old gfx.old)
+        result stack.old gfx.old stack.new gfx.new }
     ensures never { result ≢ Err OpFault.NoMemory }
 {
     let Some((black, yellow, magenta, cyan)) = stack.top_four() else {

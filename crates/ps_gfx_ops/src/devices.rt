@@ -1,10 +1,10 @@
 //! `setpagedevice`: pages of another size.
 ghost use Rattle.std.specs.Prelude.{◌≡◌, ◌≢◌, ◌≤◌, Err, IfOk, OnOk, length, codes};
-ghost use Rattle.ps_store.specs.Outcome.{Answers};
 ghost use Rattle.gfx_state.specs.Graphics.{PageSize};
 ghost use Rattle.gfx_state.specs.Keeping.{IsPageSize};
 ghost use Rattle.ps_gfx_ops.specs.Devices.{side_of, page_or_configuration, dots_of_sides, sides_of, size_in, one_size};
 ghost use Rattle.ps_gfx_ops.specs.Devices.{setpagedevice_row};
+ghost use Rattle.ps_gfx_ops.specs.Calls.{GraphicsAnswers};
 
 use crate::matrices::are_numbers;
 use crate::points::point_of;
@@ -23,9 +23,8 @@ pub(crate) struct PageDots {
 
 /// `setpagedevice`: a blank page, of the dictionary's PageSize where it has one.
 pub(crate) fn setpagedevice(stack: &mut Stack, store: &Store, gfx: &mut Gfx) -> Result<(), OpFault>
-    ensures answers { Answers (setpagedevice_row stack.old store.now gfx.old) result
-        (record { operands = stack.old; graphics = gfx.old })
-        (record { operands = stack.new; graphics = gfx.new }) }
+    ensures answers { GraphicsAnswers (setpagedevice_row stack.old store.now gfx.old)
+        result stack.old gfx.old stack.new gfx.new }
     ensures never { result ≢ Err OpFault.NoMemory }
 {
     let dots = one_size(gfx, stack, store)?;

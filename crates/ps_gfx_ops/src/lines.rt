@@ -2,15 +2,16 @@
 ghost use Rattle.std.specs.Prelude.{◌≡◌, ◌≢◌, ◌≤◌, ◌&&◌, nat_lt, OnOk, IfOk, Err, length, map};
 ghost use Rattle.std.specs.List.{list_any, list_all};
 ghost use Rattle.gfx_state.specs.Lines.{dash_fault, is_negative, is_zero};
-ghost use Rattle.ps_store.specs.Outcome.{Answers, TellsRefusal};
+ghost use Rattle.ps_store.specs.Outcome.{TellsRefusal};
 ghost use Rattle.ps_gfx_ops.specs.Lines.{one_integer, number_in, dash_error, setlinewidth_row, setmiterlimit_row};
 ghost use Rattle.ps_gfx_ops.specs.Lines.{setlinecap_row, setlinejoin_row, setdash_row, currentlinewidth_row};
+ghost use Rattle.ps_gfx_ops.specs.Calls.{GraphicsAnswers};
 
 use crate::matrices::are_numbers;
 use crate::points::one_number;
 use geo_stroke::MAX_DASHES;
 use gfx_state::{DashFault, Gfx};
-use press_fault::{Mem, PsName, RangeCheck, UndefinedResult};
+use press_fault::{Mem, PsName};
 use press_nums::{Fix, Whole, Wide};
 use ps_store::{Obj, OpFault, Stack, Store, number};
 use std::alloc::Global;
@@ -31,70 +32,50 @@ fn one_integer(stack: &Stack) -> Result<Whole, PsName>
 
 /// `setlinewidth`: the width of lines, taken without its sign.
 pub(crate) fn setlinewidth(stack: &mut Stack, gfx: &mut Gfx) -> Result<(), OpFault>
-    ensures answers { Answers (setlinewidth_row stack.old gfx.old) result
-        (record { operands = stack.old; graphics = gfx.old })
-        (record { operands = stack.new; graphics = gfx.new }) }
+    ensures answers { GraphicsAnswers (setlinewidth_row stack.old gfx.old)
+        result stack.old gfx.old stack.new gfx.new }
     ensures never { result ≢ Err OpFault.NoMemory }
 {
     let width = one_number(stack)?;
-    match gfx.set_width(width) {
-        Ok(()) => {
-            stack.drop_top(1);
-            Ok(())
-        }
-        Err(UndefinedResult) => Err(OpFault::Ps(PsName::UndefinedResult)),
-    }
+    gfx.set_width(width)?;
+    stack.drop_top(1);
+    Ok(())
 }
 
 /// `setmiterlimit`: where miters become bevels.
 pub(crate) fn setmiterlimit(stack: &mut Stack, gfx: &mut Gfx) -> Result<(), OpFault>
-    ensures answers { Answers (setmiterlimit_row stack.old gfx.old) result
-        (record { operands = stack.old; graphics = gfx.old })
-        (record { operands = stack.new; graphics = gfx.new }) }
+    ensures answers { GraphicsAnswers (setmiterlimit_row stack.old gfx.old)
+        result stack.old gfx.old stack.new gfx.new }
     ensures never { result ≢ Err OpFault.NoMemory }
 {
     let limit = one_number(stack)?;
-    match gfx.set_miter(limit) {
-        Ok(()) => {
-            stack.drop_top(1);
-            Ok(())
-        }
-        Err(RangeCheck) => Err(OpFault::Ps(PsName::RangeCheck)),
-    }
+    gfx.set_miter(limit)?;
+    stack.drop_top(1);
+    Ok(())
 }
 
 /// `setlinecap`: how open lines end.
 pub(crate) fn setlinecap(stack: &mut Stack, gfx: &mut Gfx) -> Result<(), OpFault>
-    ensures answers { Answers (setlinecap_row stack.old gfx.old) result
-        (record { operands = stack.old; graphics = gfx.old })
-        (record { operands = stack.new; graphics = gfx.new }) }
+    ensures answers { GraphicsAnswers (setlinecap_row stack.old gfx.old)
+        result stack.old gfx.old stack.new gfx.new }
     ensures never { result ≢ Err OpFault.NoMemory }
 {
     let n = one_integer(stack)?;
-    match gfx.set_cap(n) {
-        Ok(()) => {
-            stack.drop_top(1);
-            Ok(())
-        }
-        Err(RangeCheck) => Err(OpFault::Ps(PsName::RangeCheck)),
-    }
+    gfx.set_cap(n)?;
+    stack.drop_top(1);
+    Ok(())
 }
 
 /// `setlinejoin`: how segments meet.
 pub(crate) fn setlinejoin(stack: &mut Stack, gfx: &mut Gfx) -> Result<(), OpFault>
-    ensures answers { Answers (setlinejoin_row stack.old gfx.old) result
-        (record { operands = stack.old; graphics = gfx.old })
-        (record { operands = stack.new; graphics = gfx.new }) }
+    ensures answers { GraphicsAnswers (setlinejoin_row stack.old gfx.old)
+        result stack.old gfx.old stack.new gfx.new }
     ensures never { result ≢ Err OpFault.NoMemory }
 {
     let n = one_integer(stack)?;
-    match gfx.set_join(n) {
-        Ok(()) => {
-            stack.drop_top(1);
-            Ok(())
-        }
-        Err(RangeCheck) => Err(OpFault::Ps(PsName::RangeCheck)),
-    }
+    gfx.set_join(n)?;
+    stack.drop_top(1);
+    Ok(())
 }
 
 /// `setdash`: dashes and gaps in turn, and how far along them a line begins.
@@ -104,9 +85,8 @@ pub(crate) fn setdash(
     store: &Store,
     gfx: &mut Gfx,
 ) -> Result<(), OpFault>
-    ensures answers { Answers (setdash_row stack.old store.now gfx.old) result
-        (record { operands = stack.old; graphics = gfx.old })
-        (record { operands = stack.new; graphics = gfx.new }) }
+    ensures answers { GraphicsAnswers (setdash_row stack.old store.now gfx.old)
+        result stack.old gfx.old stack.new gfx.new }
     ensures refused { TellsRefusal (setdash_row stack.old store.now gfx.old) result }
 {
     let Some((offset, dashes)) = stack.top_two() else {
@@ -125,9 +105,7 @@ pub(crate) fn setdash(
     if let Some(fault) = dash_fault(objects) {
         return Err(refusal(fault));
     }
-    let Ok(lengths) = numbers(alloc, objects) else {
-        return Err(OpFault::NoMemory);
-    };
+    let lengths = numbers(alloc, objects)?;
     match gfx.set_dash(&lengths, offset) {
         Ok(()) => {
             stack.drop_top(2);
@@ -207,13 +185,10 @@ fn number_or_zero(o: &Obj) -> Fix
 
 /// `currentlinewidth`: the width of lines.
 pub(crate) fn currentlinewidth(stack: &mut Stack, gfx: &Gfx) -> Result<(), OpFault>
-    ensures answers { Answers (currentlinewidth_row stack.old gfx.now) result
-        (record { operands = stack.old; graphics = gfx.now })
-        (record { operands = stack.new; graphics = gfx.now }) }
+    ensures answers { GraphicsAnswers (currentlinewidth_row stack.old gfx.now)
+        result stack.old gfx.now stack.new gfx.now }
     ensures never { result ≢ Err OpFault.NoMemory }
 {
-    match stack.push(Obj::Real(gfx.width())) {
-        Ok(()) => Ok(()),
-        Err(_) => Err(OpFault::Ps(PsName::StackOverflow)),
-    }
+    stack.push(Obj::Real(gfx.width()))?;
+    Ok(())
 }

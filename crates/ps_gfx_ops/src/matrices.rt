@@ -8,11 +8,12 @@ ghost use Rattle.gfx_state.specs.Graphics.{GfxValue};
 ghost use Rattle.ps_gfx_ops.specs.Matrices.{elements_of, is_number, matrix_or_type, matrix_of, one_matrix, matrix_row};
 ghost use Rattle.ps_gfx_ops.specs.Matrices.{currentmatrix_row, setmatrix_row, concat_row, translate_row, scale_row};
 ghost use Rattle.ps_gfx_ops.specs.Matrices.{rotate_row, transform_row, itransform_row};
+ghost use Rattle.ps_gfx_ops.specs.Calls.{GraphicsAnswers, SceneAnswers};
 
 use crate::points::{one_number, one_point};
 use geo_matrix::{Matrix, device_of, user_of};
 use gfx_state::Gfx;
-use press_fault::{Grow, PsName, UndefinedResult};
+use press_fault::PsName;
 use ps_store::{MAX_OPERANDS, Obj, OpFault, Part, Stack, Store, number};
 
 /// The elements of a matrix, as a program sees them.
@@ -39,21 +40,15 @@ pub(crate) fn matrix(stack: &mut Stack, store: &mut Store) -> Result<(), OpFault
     if stack.len() >= MAX_OPERANDS {
         return Err(OpFault::Ps(PsName::StackOverflow));
     }
-    match store.new_array_of(&elements(&Matrix::identity())) {
-        Ok(span) => {
-            let _ = stack.push(Obj::Array(span, false));
-            Ok(())
-        }
-        Err(Grow::LimitCheck) => Err(OpFault::Ps(PsName::LimitCheck)),
-        Err(Grow::NoMemory) => Err(OpFault::NoMemory),
-    }
+    let span = store.new_array_of(&elements(&Matrix::identity()))?;
+    let _ = stack.push(Obj::Array(span, false));
+    Ok(())
 }
 
 /// `currentmatrix`: the current transformation matrix in the first six elements of an array.
 pub(crate) fn currentmatrix(stack: &mut Stack, store: &mut Store, gfx: &Gfx) -> Result<(), OpFault>
-    ensures answers { Answers (currentmatrix_row stack.old store.old gfx.now) result
-        (record { operands = stack.old; store = store.old; graphics = gfx.now })
-        (record { operands = stack.new; store = store.new; graphics = gfx.now }) }
+    ensures answers { SceneAnswers (currentmatrix_row stack.old store.old gfx.now)
+        result stack.old store.old gfx.now stack.new store.new gfx.now }
     ensures never { result ≢ Err OpFault.NoMemory }
 {
     let Some(top) = stack.top() else {
@@ -135,9 +130,8 @@ fn six(a: &Obj, b: &Obj, c: &Obj, d: &Obj, tx: &Obj, ty: &Obj) -> Result<Matrix,
 
 /// `setmatrix`: an array becomes the current transformation matrix.
 pub(crate) fn setmatrix(stack: &mut Stack, store: &Store, gfx: &mut Gfx) -> Result<(), OpFault>
-    ensures answers { Answers (setmatrix_row stack.old store.now gfx.old) result
-        (record { operands = stack.old; graphics = gfx.old })
-        (record { operands = stack.new; graphics = gfx.new }) }
+    ensures answers { GraphicsAnswers (setmatrix_row stack.old store.now gfx.old)
+        result stack.old gfx.old stack.new gfx.new }
     ensures never { result ≢ Err OpFault.NoMemory }
 {
     let m = one_matrix(stack, store)?;
@@ -148,77 +142,56 @@ pub(crate) fn setmatrix(stack: &mut Stack, store: &Store, gfx: &mut Gfx) -> Resu
 
 /// `concat`: the matrix of an array is put before the current one.
 pub(crate) fn concat(stack: &mut Stack, store: &Store, gfx: &mut Gfx) -> Result<(), OpFault>
-    ensures answers { Answers (concat_row stack.old store.now gfx.old) result
-        (record { operands = stack.old; graphics = gfx.old })
-        (record { operands = stack.new; graphics = gfx.new }) }
+    ensures answers { GraphicsAnswers (concat_row stack.old store.now gfx.old)
+        result stack.old gfx.old stack.new gfx.new }
     ensures never { result ≢ Err OpFault.NoMemory }
 {
     let m = one_matrix(stack, store)?;
-    match gfx.concat(&m) {
-        Ok(()) => {
-            stack.drop_top(1);
-            Ok(())
-        }
-        Err(UndefinedResult) => Err(OpFault::Ps(PsName::UndefinedResult)),
-    }
+    gfx.concat(&m)?;
+    stack.drop_top(1);
+    Ok(())
 }
 
 /// `translate`: moves the origin of user space.
 pub(crate) fn translate(stack: &mut Stack, gfx: &mut Gfx) -> Result<(), OpFault>
-    ensures answers { Answers (translate_row stack.old gfx.old) result
-        (record { operands = stack.old; graphics = gfx.old })
-        (record { operands = stack.new; graphics = gfx.new }) }
+    ensures answers { GraphicsAnswers (translate_row stack.old gfx.old)
+        result stack.old gfx.old stack.new gfx.new }
     ensures never { result ≢ Err OpFault.NoMemory }
 {
     let u = one_point(stack)?;
-    match gfx.translate(u.x, u.y) {
-        Ok(()) => {
-            stack.drop_top(2);
-            Ok(())
-        }
-        Err(UndefinedResult) => Err(OpFault::Ps(PsName::UndefinedResult)),
-    }
+    gfx.translate(u.x, u.y)?;
+    stack.drop_top(2);
+    Ok(())
 }
 
 /// `scale`: makes the units of user space so many times as long.
 pub(crate) fn scale(stack: &mut Stack, gfx: &mut Gfx) -> Result<(), OpFault>
-    ensures answers { Answers (scale_row stack.old gfx.old) result
-        (record { operands = stack.old; graphics = gfx.old })
-        (record { operands = stack.new; graphics = gfx.new }) }
+    ensures answers { GraphicsAnswers (scale_row stack.old gfx.old)
+        result stack.old gfx.old stack.new gfx.new }
     ensures never { result ≢ Err OpFault.NoMemory }
 {
     let u = one_point(stack)?;
-    match gfx.scale(u.x, u.y) {
-        Ok(()) => {
-            stack.drop_top(2);
-            Ok(())
-        }
-        Err(UndefinedResult) => Err(OpFault::Ps(PsName::UndefinedResult)),
-    }
+    gfx.scale(u.x, u.y)?;
+    stack.drop_top(2);
+    Ok(())
 }
 
 /// `rotate`: turns user space by so many degrees.
 pub(crate) fn rotate(stack: &mut Stack, gfx: &mut Gfx) -> Result<(), OpFault>
-    ensures answers { Answers (rotate_row stack.old gfx.old) result
-        (record { operands = stack.old; graphics = gfx.old })
-        (record { operands = stack.new; graphics = gfx.new }) }
+    ensures answers { GraphicsAnswers (rotate_row stack.old gfx.old)
+        result stack.old gfx.old stack.new gfx.new }
     ensures never { result ≢ Err OpFault.NoMemory }
 {
     let angle = one_number(stack)?;
-    match gfx.rotate(angle) {
-        Ok(()) => {
-            stack.drop_top(1);
-            Ok(())
-        }
-        Err(UndefinedResult) => Err(OpFault::Ps(PsName::UndefinedResult)),
-    }
+    gfx.rotate(angle)?;
+    stack.drop_top(1);
+    Ok(())
 }
 
 /// `transform`: the point of device space of a user point.
 pub(crate) fn transform(stack: &mut Stack, gfx: &Gfx) -> Result<(), OpFault>
-    ensures answers { Answers (transform_row stack.old gfx.now) result
-        (record { operands = stack.old; graphics = gfx.now })
-        (record { operands = stack.new; graphics = gfx.now }) }
+    ensures answers { GraphicsAnswers (transform_row stack.old gfx.now)
+        result stack.old gfx.now stack.new gfx.now }
     ensures never { result ≢ Err OpFault.NoMemory }
 {
     let u = one_point(stack)?;
@@ -231,9 +204,8 @@ pub(crate) fn transform(stack: &mut Stack, gfx: &Gfx) -> Result<(), OpFault>
 
 /// `itransform`: the user point of a point of device space.
 pub(crate) fn itransform(stack: &mut Stack, gfx: &Gfx) -> Result<(), OpFault>
-    ensures answers { Answers (itransform_row stack.old gfx.now) result
-        (record { operands = stack.old; graphics = gfx.now })
-        (record { operands = stack.new; graphics = gfx.now }) }
+    ensures answers { GraphicsAnswers (itransform_row stack.old gfx.now)
+        result stack.old gfx.now stack.new gfx.now }
     ensures never { result ≢ Err OpFault.NoMemory }
 {
     let u = one_point(stack)?;

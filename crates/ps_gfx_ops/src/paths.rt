@@ -3,17 +3,18 @@ ghost use Rattle.std.specs.Prelude.{◌≡◌, ◌≢◌, ◌≤◌, OnOk, Err, 
 ghost use Rattle.geo_matrix.specs.Affine.{IsNear};
 ghost use Rattle.geo_path.specs.Path.{line_of, curve_of, closed};
 ghost use Rattle.gfx_state.specs.Graphics.{with_path};
-ghost use Rattle.ps_store.specs.Outcome.{Answers, TellsRefusal};
+ghost use Rattle.ps_store.specs.Outcome.{TellsRefusal};
 ghost use Rattle.ps_gfx_ops.specs.Paths.{error_of, drawn, stepped, moveto_row, lineto_row, rmoveto_row, rlineto_row};
 ghost use Rattle.ps_gfx_ops.specs.Paths.{curveto_row, rcurveto_row, arc_row, currentpoint_row, fill_row, stroke_row};
 ghost use Rattle.ps_gfx_ops.specs.Paths.{stroke_start, clip_row};
+ghost use Rattle.ps_gfx_ops.specs.Calls.{GraphicsAnswers};
 
 use crate::points::{one_point, three_points};
 use geo_matrix::{back, by_dots, to_dots};
 use geo_path::PathFault;
 use gfx_state::Gfx;
 use page_model::Rule;
-use press_fault::{Grow, NoMemory, Point, PsName};
+use press_fault::{Point, PsName};
 use ps_store::{Obj, OpFault, Stack, number};
 
 /// What a path's refusal is to an operator.
@@ -40,9 +41,8 @@ fn stepped(at: Point, step: Point) -> Point
 
 /// `moveto`: starts a subpath.
 pub(crate) fn moveto(stack: &mut Stack, gfx: &mut Gfx) -> Result<(), OpFault>
-    ensures answers { Answers (moveto_row stack.old gfx.old) result
-        (record { operands = stack.old; graphics = gfx.old })
-        (record { operands = stack.new; graphics = gfx.new }) }
+    ensures answers { GraphicsAnswers (moveto_row stack.old gfx.old)
+        result stack.old gfx.old stack.new gfx.new }
     ensures refused { TellsRefusal (moveto_row stack.old gfx.old) result }
 {
     let u = one_point(stack)?;
@@ -60,9 +60,8 @@ pub(crate) fn moveto(stack: &mut Stack, gfx: &mut Gfx) -> Result<(), OpFault>
 
 /// `lineto`: a line from the current point.
 pub(crate) fn lineto(stack: &mut Stack, gfx: &mut Gfx) -> Result<(), OpFault>
-    ensures answers { Answers (lineto_row stack.old gfx.old) result
-        (record { operands = stack.old; graphics = gfx.old })
-        (record { operands = stack.new; graphics = gfx.new }) }
+    ensures answers { GraphicsAnswers (lineto_row stack.old gfx.old)
+        result stack.old gfx.old stack.new gfx.new }
     ensures refused { TellsRefusal (lineto_row stack.old gfx.old) result }
 {
     let u = one_point(stack)?;
@@ -77,9 +76,8 @@ pub(crate) fn lineto(stack: &mut Stack, gfx: &mut Gfx) -> Result<(), OpFault>
 
 /// `rmoveto`: starts a subpath a step from the current point.
 pub(crate) fn rmoveto(stack: &mut Stack, gfx: &mut Gfx) -> Result<(), OpFault>
-    ensures answers { Answers (rmoveto_row stack.old gfx.old) result
-        (record { operands = stack.old; graphics = gfx.old })
-        (record { operands = stack.new; graphics = gfx.new }) }
+    ensures answers { GraphicsAnswers (rmoveto_row stack.old gfx.old)
+        result stack.old gfx.old stack.new gfx.new }
     ensures refused { TellsRefusal (rmoveto_row stack.old gfx.old) result }
 {
     let u = one_point(stack)?;
@@ -100,9 +98,8 @@ pub(crate) fn rmoveto(stack: &mut Stack, gfx: &mut Gfx) -> Result<(), OpFault>
 
 /// `rlineto`: a line of a step from the current point.
 pub(crate) fn rlineto(stack: &mut Stack, gfx: &mut Gfx) -> Result<(), OpFault>
-    ensures answers { Answers (rlineto_row stack.old gfx.old) result
-        (record { operands = stack.old; graphics = gfx.old })
-        (record { operands = stack.new; graphics = gfx.new }) }
+    ensures answers { GraphicsAnswers (rlineto_row stack.old gfx.old)
+        result stack.old gfx.old stack.new gfx.new }
     ensures refused { TellsRefusal (rlineto_row stack.old gfx.old) result }
 {
     let u = one_point(stack)?;
@@ -118,9 +115,8 @@ pub(crate) fn rlineto(stack: &mut Stack, gfx: &mut Gfx) -> Result<(), OpFault>
 /// Draws a line from the current point, and drops its two operands.
 fn draw_line(stack: &mut Stack, gfx: &mut Gfx, p: Point) -> Result<(), OpFault>
     requires { 2 ≤ length stack.old }
-    ensures answers { Answers (drawn (line_of gfx.old.state.path p) (drop 2 stack.old) gfx.old) result
-        (record { operands = stack.old; graphics = gfx.old })
-        (record { operands = stack.new; graphics = gfx.new }) }
+    ensures answers { GraphicsAnswers (drawn (line_of gfx.old.state.path p) (drop 2 stack.old) gfx.old)
+        result stack.old gfx.old stack.new gfx.new }
     ensures refused { TellsRefusal (drawn (line_of gfx.old.state.path p) (drop 2 stack.old) gfx.old) result }
 {
     match gfx.line_to(p) {
@@ -134,9 +130,8 @@ fn draw_line(stack: &mut Stack, gfx: &mut Gfx, p: Point) -> Result<(), OpFault>
 
 /// `curveto`: a curve from the current point.
 pub(crate) fn curveto(stack: &mut Stack, gfx: &mut Gfx) -> Result<(), OpFault>
-    ensures answers { Answers (curveto_row stack.old gfx.old) result
-        (record { operands = stack.old; graphics = gfx.old })
-        (record { operands = stack.new; graphics = gfx.new }) }
+    ensures answers { GraphicsAnswers (curveto_row stack.old gfx.old)
+        result stack.old gfx.old stack.new gfx.new }
     ensures refused { TellsRefusal (curveto_row stack.old gfx.old) result }
 {
     let u = three_points(stack)?;
@@ -157,9 +152,8 @@ pub(crate) fn curveto(stack: &mut Stack, gfx: &mut Gfx) -> Result<(), OpFault>
 
 /// `rcurveto`: a curve whose points are steps from the current point.
 pub(crate) fn rcurveto(stack: &mut Stack, gfx: &mut Gfx) -> Result<(), OpFault>
-    ensures answers { Answers (rcurveto_row stack.old gfx.old) result
-        (record { operands = stack.old; graphics = gfx.old })
-        (record { operands = stack.new; graphics = gfx.new }) }
+    ensures answers { GraphicsAnswers (rcurveto_row stack.old gfx.old)
+        result stack.old gfx.old stack.new gfx.new }
     ensures refused { TellsRefusal (rcurveto_row stack.old gfx.old) result }
 {
     let u = three_points(stack)?;
@@ -181,9 +175,8 @@ pub(crate) fn rcurveto(stack: &mut Stack, gfx: &mut Gfx) -> Result<(), OpFault>
 /// Draws a curve from the current point, and drops its six operands.
 fn draw_curve(stack: &mut Stack, gfx: &mut Gfx, p: Point, q: Point, r: Point) -> Result<(), OpFault>
     requires { 6 ≤ length stack.old }
-    ensures answers { Answers (drawn (curve_of gfx.old.state.path p q r) (drop 6 stack.old) gfx.old) result
-        (record { operands = stack.old; graphics = gfx.old })
-        (record { operands = stack.new; graphics = gfx.new }) }
+    ensures answers { GraphicsAnswers (drawn (curve_of gfx.old.state.path p q r) (drop 6 stack.old) gfx.old)
+        result stack.old gfx.old stack.new gfx.new }
     ensures refused { TellsRefusal (drawn (curve_of gfx.old.state.path p q r) (drop 6 stack.old) gfx.old) result }
 {
     match gfx.curve_to(p, q, r) {
@@ -197,9 +190,8 @@ fn draw_curve(stack: &mut Stack, gfx: &mut Gfx, p: Point, q: Point, r: Point) ->
 
 /// `arc`, and `arcn` where it is clockwise: lines along an arc of a circle.
 pub(crate) fn arc(stack: &mut Stack, gfx: &mut Gfx, clockwise: bool) -> Result<(), OpFault>
-    ensures answers { Answers (arc_row clockwise stack.old gfx.old) result
-        (record { operands = stack.old; graphics = gfx.old })
-        (record { operands = stack.new; graphics = gfx.new }) }
+    ensures answers { GraphicsAnswers (arc_row clockwise stack.old gfx.old)
+        result stack.old gfx.old stack.new gfx.new }
     ensures refused { TellsRefusal (arc_row clockwise stack.old gfx.old) result }
 {
     let Some((to, from, r, y, x)) = stack.top_five() else {
@@ -225,9 +217,8 @@ pub(crate) fn arc(stack: &mut Stack, gfx: &mut Gfx, clockwise: bool) -> Result<(
 
 /// `currentpoint`: the current point in user space, as two real numbers.
 pub(crate) fn currentpoint(stack: &mut Stack, gfx: &Gfx) -> Result<(), OpFault>
-    ensures answers { Answers (currentpoint_row stack.old gfx.now) result
-        (record { operands = stack.old; graphics = gfx.now })
-        (record { operands = stack.new; graphics = gfx.now }) }
+    ensures answers { GraphicsAnswers (currentpoint_row stack.old gfx.now)
+        result stack.old gfx.now stack.new gfx.now }
     ensures never { result ≢ Err OpFault.NoMemory }
 {
     let Some(at) = gfx.path().current() else {
@@ -249,50 +240,36 @@ pub(crate) fn closepath(gfx: &mut Gfx) -> Result<(), OpFault>
     ensures ok { OnOk result (gfx.new ≡ with_path gfx.old (closed gfx.old.state.path)) }
     ensures err { IfErr result (λ fault. fault ≡ OpFault.NoMemory) }
 {
-    match gfx.close() {
-        Ok(()) => Ok(()),
-        Err(NoMemory) => Err(OpFault::NoMemory),
-    }
+    gfx.close()?;
+    Ok(())
 }
 
 /// `fill` and `eofill`: the path is filled by an inside rule, and empty then.
 pub(crate) fn fill(stack: &mut Stack, gfx: &mut Gfx, rule: Rule) -> Result<(), OpFault>
-    ensures answers { Answers (fill_row rule stack.old gfx.old) result
-        (record { operands = stack.old; graphics = gfx.old })
-        (record { operands = stack.new; graphics = gfx.new }) }
+    ensures answers { GraphicsAnswers (fill_row rule stack.old gfx.old)
+        result stack.old gfx.old stack.new gfx.new }
     ensures refused { TellsRefusal (fill_row rule stack.old gfx.old) result }
 {
-    match gfx.mark_fill(rule) {
-        Ok(()) => Ok(()),
-        Err(Grow::LimitCheck) => Err(OpFault::Ps(PsName::LimitCheck)),
-        Err(Grow::NoMemory) => Err(OpFault::NoMemory),
-    }
+    gfx.mark_fill(rule)?;
+    Ok(())
 }
 
 /// `stroke`: the path is stroked by the line parameters, and empty then.
 pub(crate) fn stroke(stack: &mut Stack, gfx: &mut Gfx) -> Result<(), OpFault>
-    ensures answers { Answers (stroke_row stack.old gfx.old) result
-        (record { operands = stack.old; graphics = gfx.old })
-        (record { operands = stack.new; graphics = gfx.new }) }
+    ensures answers { GraphicsAnswers (stroke_row stack.old gfx.old)
+        result stack.old gfx.old stack.new gfx.new }
     ensures refused_at_first { TellsRefusal (stroke_start stack.old gfx.old) result }
 {
-    match gfx.mark_stroke() {
-        Ok(()) => Ok(()),
-        Err(Grow::LimitCheck) => Err(OpFault::Ps(PsName::LimitCheck)),
-        Err(Grow::NoMemory) => Err(OpFault::NoMemory),
-    }
+    gfx.mark_stroke()?;
+    Ok(())
 }
 
 /// `clip` and `eoclip`: the clip is cut to the path by an inside rule. The path stays.
 pub(crate) fn clip(stack: &mut Stack, gfx: &mut Gfx, rule: Rule) -> Result<(), OpFault>
-    ensures answers { Answers (clip_row rule stack.old gfx.old) result
-        (record { operands = stack.old; graphics = gfx.old })
-        (record { operands = stack.new; graphics = gfx.new }) }
+    ensures answers { GraphicsAnswers (clip_row rule stack.old gfx.old)
+        result stack.old gfx.old stack.new gfx.new }
     ensures refused { TellsRefusal (clip_row rule stack.old gfx.old) result }
 {
-    match gfx.clip(rule) {
-        Ok(()) => Ok(()),
-        Err(Grow::LimitCheck) => Err(OpFault::Ps(PsName::LimitCheck)),
-        Err(Grow::NoMemory) => Err(OpFault::NoMemory),
-    }
+    gfx.clip(rule)?;
+    Ok(())
 }

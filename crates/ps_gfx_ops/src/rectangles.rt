@@ -2,9 +2,10 @@
 ghost use Rattle.std.specs.Prelude.{◌≡◌, ◌≤◌, [], ◌∷◌, length, Err, IfOk, IfErr, OnOk};
 ghost use Rattle.std.specs.List.{All};
 ghost use Rattle.geo_matrix.specs.Affine.{IsNear};
-ghost use Rattle.ps_store.specs.Outcome.{Answers, TellsRefusal};
+ghost use Rattle.ps_store.specs.Outcome.{TellsRefusal};
 ghost use Rattle.ps_gfx_ops.specs.Rectangles.{rectangle_of, one_rectangle, path_along, rectfill_row, rectstroke_row};
 ghost use Rattle.ps_gfx_ops.specs.Rectangles.{rectstroke_start, rectclip_row};
+ghost use Rattle.ps_gfx_ops.specs.Calls.{GraphicsAnswers};
 
 use geo_matrix::{Matrix, to_dots};
 use geo_path::{Path, PathFault};
@@ -99,33 +100,24 @@ fn or_no_memory(answer: Result<(), PathFault>) -> Mem<()>
 
 /// `rectfill`: a mark of a rectangle. The path stays.
 pub(crate) fn rectfill(alloc: Global, stack: &mut Stack, gfx: &mut Gfx) -> Result<(), OpFault>
-    ensures answers { Answers (rectfill_row stack.old gfx.old) result
-        (record { operands = stack.old; graphics = gfx.old })
-        (record { operands = stack.new; graphics = gfx.new }) }
+    ensures answers { GraphicsAnswers (rectfill_row stack.old gfx.old)
+        result stack.old gfx.old stack.new gfx.new }
     ensures refused { TellsRefusal (rectfill_row stack.old gfx.old) result }
 {
     let points = one_rectangle(&gfx.matrix(), stack)?;
     if !gfx.has_room(4) {
         return Err(OpFault::Ps(PsName::LimitCheck));
     }
-    let Ok(rings) = ring_of(alloc, &points) else {
-        return Err(OpFault::NoMemory);
-    };
-    match gfx.mark_rings(Rule::Nonzero, rings) {
-        Ok(()) => {
-            stack.drop_top(4);
-            Ok(())
-        }
-        Err(Grow::LimitCheck) => Err(OpFault::Ps(PsName::LimitCheck)),
-        Err(Grow::NoMemory) => Err(OpFault::NoMemory),
-    }
+    let rings = ring_of(alloc, &points)?;
+    gfx.mark_rings(Rule::Nonzero, rings)?;
+    stack.drop_top(4);
+    Ok(())
 }
 
 /// `rectstroke`: a mark of a rectangle's outline. The path stays.
 pub(crate) fn rectstroke(alloc: Global, stack: &mut Stack, gfx: &mut Gfx) -> Result<(), OpFault>
-    ensures answers { Answers (rectstroke_row stack.old gfx.old) result
-        (record { operands = stack.old; graphics = gfx.old })
-        (record { operands = stack.new; graphics = gfx.new }) }
+    ensures answers { GraphicsAnswers (rectstroke_row stack.old gfx.old)
+        result stack.old gfx.old stack.new gfx.new }
     ensures refused_at_first { TellsRefusal (rectstroke_start stack.old gfx.old) result }
 {
     let points = one_rectangle(&gfx.matrix(), stack)?;
@@ -135,6 +127,7 @@ pub(crate) fn rectstroke(alloc: Global, stack: &mut Stack, gfx: &mut Gfx) -> Res
     let Ok(path) = path_along(alloc, &points) else {
         return Err(OpFault::NoMemory);
     };
+    // Told apart by a match, since the proof that the pen is asked first is one for each fault.
     match gfx.mark_stroke_of(&path) {
         Ok(()) => {
             stack.drop_top(4);
@@ -147,25 +140,17 @@ pub(crate) fn rectstroke(alloc: Global, stack: &mut Stack, gfx: &mut Gfx) -> Res
 
 /// `rectclip`: the clip is cut to a rectangle. The path is empty then.
 pub(crate) fn rectclip(alloc: Global, stack: &mut Stack, gfx: &mut Gfx) -> Result<(), OpFault>
-    ensures answers { Answers (rectclip_row stack.old gfx.old) result
-        (record { operands = stack.old; graphics = gfx.old })
-        (record { operands = stack.new; graphics = gfx.new }) }
+    ensures answers { GraphicsAnswers (rectclip_row stack.old gfx.old)
+        result stack.old gfx.old stack.new gfx.new }
     ensures refused { TellsRefusal (rectclip_row stack.old gfx.old) result }
 {
     let points = one_rectangle(&gfx.matrix(), stack)?;
     if !gfx.has_clip_room() {
         return Err(OpFault::Ps(PsName::LimitCheck));
     }
-    let Ok(path) = path_along(alloc, &points) else {
-        return Err(OpFault::NoMemory);
-    };
-    match gfx.clip_to(Rule::Nonzero, &path) {
-        Ok(()) => {
-            gfx.new_path();
-            stack.drop_top(4);
-            Ok(())
-        }
-        Err(Grow::LimitCheck) => Err(OpFault::Ps(PsName::LimitCheck)),
-        Err(Grow::NoMemory) => Err(OpFault::NoMemory),
-    }
+    let path = path_along(alloc, &points)?;
+    gfx.clip_to(Rule::Nonzero, &path)?;
+    gfx.new_path();
+    stack.drop_top(4);
+    Ok(())
 }

@@ -1,7 +1,8 @@
 //! One call for every graphics operator.
 ghost use Rattle.std.specs.Prelude.{◌≡◌, true, Err};
-ghost use Rattle.ps_store.specs.Outcome.{Answers, TellsRefusal};
+ghost use Rattle.ps_store.specs.Outcome.{TellsRefusal};
 ghost use Rattle.ps_gfx_ops.specs.Rows.{gfx_row, row_before_memory, takes_memory};
+ghost use Rattle.ps_gfx_ops.specs.Calls.{SceneAnswers};
 
 use crate::colours::{currentgray, setcmykcolor, setgray, setrgbcolor};
 use crate::devices::setpagedevice;
@@ -35,9 +36,8 @@ pub fn run_gfx(
     store: &mut Store,
     gfx: &mut Gfx,
 ) -> Result<(), OpFault>
-    ensures answers { Answers (gfx_row op stack.old store.old gfx.old) result
-        (record { operands = stack.old; store = store.old; graphics = gfx.old })
-        (record { operands = stack.new; store = store.new; graphics = gfx.new }) }
+    ensures answers { SceneAnswers (gfx_row op stack.old store.old gfx.old)
+        result stack.old store.old gfx.old stack.new store.new gfx.new }
     ensures refused { TellsRefusal (row_before_memory op stack.old store.old gfx.old) result }
     ensures memory { result ≡ Err OpFault.NoMemory → takes_memory op ≡ true }
 {

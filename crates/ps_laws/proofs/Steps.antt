@@ -7,7 +7,7 @@ use Rattle.press_fault.specs.declared.names.PsName.TheVariants.{StackOverflow, U
 use Rattle.ps_store.specs.declared.obj.Obj.{Obj}
 use Rattle.ps_store.specs.declared.obj.Obj.TheVariants.{Bool as Truth, Name, Array, Oper as Operator}
 use Rattle.ps_store.specs.declared.oper.Oper.{Oper}
-use Rattle.ps_store.specs.declared.oper.Oper.TheVariants.{Stack, Data, Flow, Gfx, Page}
+use Rattle.ps_store.specs.declared.oper.Oper.TheVariants.{Stack, Data, Flow, Gfx, Page, Space, Image, Font}
 use Rattle.ps_store.specs.declared.oper.FlowOp.{FlowOp}
 use Rattle.ps_store.specs.declared.oper.FlowOp.TheVariants as OnFlow
 use Rattle.ps_store.specs.declared.oper.PageOp.TheVariants.{Quit, Showpage}
@@ -152,6 +152,9 @@ lowers_operate n (Gfx op) s h = lowers_gfx n (gfx_row op s.operands s.store s.gr
     (idle n s h) (gfx_few op s.operands s.store s.graphics h.0.0)
 lowers_operate n (Page Quit) s h = tt
 lowers_operate n (Page Showpage) s h = let w = idle_zero s.at_once (length s.operands) h.1 in (h.0, omega arith)
+lowers_operate n (Space op) s h = lowers_failed n Undefined (name_of (Space op)) s (idle n s h)
+lowers_operate n (Image op) s h = lowers_failed n Undefined (name_of (Image op)) s (idle n s h)
+lowers_operate n (Font op) s h = lowers_failed n Undefined (name_of (Font op)) s (idle n s h)
 
 lowers_call : (n : ℕ) (name : List ℕ) (level : Level) (s : BodyValue) → Ready n s → Lowers n (call name level s)
 lowers_call n name level s h = by_test (Lowers n) (nat_lt (length s.levels) 250)

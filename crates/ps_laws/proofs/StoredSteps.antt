@@ -6,7 +6,7 @@ use Rattle.press_fault.specs.declared.names.PsName.TheVariants.{StackOverflow, U
 use Rattle.ps_store.specs.declared.obj.Obj.{Obj}
 use Rattle.ps_store.specs.declared.obj.Obj.TheVariants.{Bool as Truth, Name, Array, Oper as Operator}
 use Rattle.ps_store.specs.declared.oper.Oper.{Oper}
-use Rattle.ps_store.specs.declared.oper.Oper.TheVariants.{Stack, Data, Flow, Gfx, Page}
+use Rattle.ps_store.specs.declared.oper.Oper.TheVariants.{Stack, Data, Flow, Gfx, Page, Space, Image, Font}
 use Rattle.ps_store.specs.declared.oper.FlowOp.{FlowOp}
 use Rattle.ps_store.specs.declared.oper.FlowOp.TheVariants as OnFlow
 use Rattle.ps_store.specs.declared.oper.PageOp.TheVariants.{Quit, Showpage}
@@ -152,6 +152,9 @@ keeps_operate (Gfx op) s h = keeps_gfx (gfx_row op s.operands s.store s.graphics
     (gfx_of op s.operands s.store s.graphics h.0 h.1)
 keeps_operate (Page Quit) s h = tt
 keeps_operate (Page Showpage) s h = h
+keeps_operate (Space op) s h = keeps_failed Undefined (name_of (Space op)) s h
+keeps_operate (Image op) s h = keeps_failed Undefined (name_of (Image op)) s h
+keeps_operate (Font op) s h = keeps_failed Undefined (name_of (Font op)) s h
 
 keeps_call : (name : List ℕ) (level : Level) (s : BodyValue) → IsLevelOf (length s.store.made) level → Stored s →
     Keeps (call name level s)

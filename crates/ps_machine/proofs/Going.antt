@@ -8,7 +8,7 @@ use Rattle.ps_store.specs.declared.key.Key.TheVariants.{Named}
 use Rattle.ps_store.specs.Dicts.{find_key}
 use Rattle.gfx_state.specs.Graphics.{page_of}
 use Rattle.ps_machine.specs.State.{BodyValue}
-use Rattle.ps_machine.specs.Errors.{Shows}
+use Rattle.ps_machine.specs.Errors.{Goes, Shows}
 use Rattle.ps_machine.specs.Steps.{execute, execute_value, operate, shown}
 use Rattle.ps_machine.specs.Reading.{step}
 use Rattle.ps_machine.specs.Memory.{takes_memory, object_takes_memory}
@@ -22,6 +22,13 @@ unfolding run
 a_page_comes zero s t now page whole h w e p r = absurd (omega (arith, h))
 a_page_comes (suc n) s t now page whole h w e p r =
     let k : suc n - 1 ≡ n = omega arith in rw (sym w, e, p, r, k) refl
+
+-- a step that goes on: what the rest means is what the whole means
+pub a_step_goes : (n : ℕ) (s t : BodyValue) (whole : Meaning) → 0 < n → run n s ≡ whole → step s ≡ Goes t →
+    run (n - 1) t ≡ whole
+unfolding run
+a_step_goes zero s t whole h w e = absurd (omega (arith, h))
+a_step_goes (suc n) s t whole h w e = let k : suc n - 1 ≡ n = omega arith in rw (sym w, e, k) refl
 
 -- an executable name whose value is an operator does that operator's row
 pub executed : (o : Obj) (name : List ℕ) (op : Oper) (s : BodyValue) → o ≡ Name name true →

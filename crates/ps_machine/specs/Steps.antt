@@ -6,7 +6,7 @@ use Rattle.press_fault.specs.declared.names.PsName.TheVariants.{StackOverflow, U
 use Rattle.ps_store.specs.declared.obj.Obj.{Obj}
 use Rattle.ps_store.specs.declared.obj.Obj.TheVariants.{Bool as Truth, Array, Name, Oper as Operator}
 use Rattle.ps_store.specs.declared.oper.Oper.{Oper}
-use Rattle.ps_store.specs.declared.oper.Oper.TheVariants.{Stack, Data, Flow, Gfx, Page}
+use Rattle.ps_store.specs.declared.oper.Oper.TheVariants.{Stack, Data, Flow, Gfx, Page, Space, Image, Font}
 use Rattle.ps_store.specs.declared.oper.FlowOp.{FlowOp}
 use Rattle.ps_store.specs.declared.oper.FlowOp.TheVariants as OnFlow
 use Rattle.ps_store.specs.declared.oper.PageOp.TheVariants.{Quit, Showpage}
@@ -84,7 +84,8 @@ operate_flow op s = after_flow (flow_row op s.operands s.levels s.store s.dicts)
 abbrev pub shown : BodyValue → BodyValue
 shown s = record s { graphics = with_initial (erased s.graphics) }
 
--- an operator does its row; `quit` ends the program, and `showpage` shows the page
+-- an operator does its row; `quit` ends the program, and `showpage` shows the page; one on colour spaces, images or
+-- fonts, which isn't built and which no program finds, is undefined by its name
 unfoldable pub operate : Oper → BodyValue → StepOutcome
 operate (Stack op) s = after_stack (stack_row op s.operands s.store) (name_of (Stack op)) s
 operate (Data op) s = after_data (data_row op (work_of s)) (name_of (Data op)) s
@@ -92,6 +93,9 @@ operate (Flow op) s = operate_flow op s
 operate (Gfx op) s = after_gfx (gfx_row op s.operands s.store s.graphics) (name_of (Gfx op)) s
 operate (Page Quit) s = Ends Done
 operate (Page Showpage) s = Shows (page_of s.graphics) (shown s)
+operate (Space op) s = failed Undefined (name_of (Space op)) s
+operate (Image op) s = failed Undefined (name_of (Image op)) s
+operate (Font op) s = failed Undefined (name_of (Font op)) s
 
 -- a procedure found by a name runs, where fewer than 250 levels are open, else execstackoverflow; the command is that
 -- name

@@ -294,6 +294,9 @@ impl Body {
                 Ok(Turn::Ended)
             }
             Oper::Page(PageOp::Showpage) => Ok(Turn::Shown),
+            Oper::Space(_) | Oper::Image(_) | Oper::Font(_) => {
+                Ok(self.refuse_op(end, PsName::Undefined, op))
+            }
         }
     }
 

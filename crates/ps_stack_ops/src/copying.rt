@@ -3,17 +3,17 @@ ghost use Rattle.std.specs.Prelude.{◌≡◌, ◌≢◌, ◌≤◌, ◌<◌, �
 ghost use Rattle.ps_store.specs.Copying.{copied_part};
 ghost use Rattle.ps_store.specs.Outcome.{Answers, TellsRefusal};
 ghost use Rattle.ps_stack_ops.specs.Rows.{copied, front_of, entries_copied, copy_row};
+ghost use Rattle.ps_store.specs.Calls.{StoreAnswers};
 
-use press_fault::{Grow, PsName};
+use press_fault::PsName;
 use press_nums::Whole;
 use ps_store::{MAX_OPERANDS, Obj, OpFault, Part, SYSTEMDICT, Stack, Store};
 
 /// Copies operands by their number, or the items of one composite into another of its kind.
 #[tactic(auto, using(crate::proofs::Lifted::lifted, crate::proofs::Lifted::told))]
 pub(crate) fn copy(stack: &mut Stack, store: &mut Store) -> Result<(), OpFault>
-    ensures answers { Answers (copy_row stack.old store.old) result
-        (record { operands = stack.old; store = store.old })
-        (record { operands = stack.new; store = store.new }) }
+    ensures answers { StoreAnswers (copy_row stack.old store.old)
+        result stack.old store.old stack.new store.new }
     ensures refused { TellsRefusal (copy_row stack.old store.old) result }
 {
     let Some((b, a)) = stack.top_two() else {
@@ -73,20 +73,16 @@ fn define_entries(store: &mut Store, from: u32, to: u32) -> Result<(), OpFault>
     if to == SYSTEMDICT {
         return Err(OpFault::Ps(PsName::InvalidAccess));
     }
-    match store.copy_entries(from, to) {
-        Ok(()) => Ok(()),
-        Err(Grow::LimitCheck) => Err(OpFault::Ps(PsName::LimitCheck)),
-        Err(Grow::NoMemory) => Err(OpFault::NoMemory),
-    }
+    store.copy_entries(from, to)?;
+    Ok(())
 }
 
 /// `copy` with fewer than two operands.
 #[tactic(auto, using(crate::proofs::Lifted::lifted, crate::proofs::Lifted::told))]
 fn copy_one(stack: &mut Stack, store: &Store) -> Result<(), OpFault>
     requires { length stack.old < 2 }
-    ensures answers { Answers (copy_row stack.old store.now) result
-        (record { operands = stack.old; store = store.now })
-        (record { operands = stack.new; store = store.now }) }
+    ensures answers { StoreAnswers (copy_row stack.old store.now)
+        result stack.old store.now stack.new store.now }
     ensures never { result ≢ Err OpFault.NoMemory }
 {
     let Some(top) = stack.top() else {

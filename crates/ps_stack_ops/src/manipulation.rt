@@ -4,7 +4,7 @@ ghost use Rattle.ps_store.specs.Outcome.{Answers, pushed, Goes};
 ghost use Rattle.ps_stack_ops.specs.Rows.{pop_row, exch_row, dup_row, count_row, index_row, roll_row, cleartomark_row};
 ghost use Rattle.ps_stack_ops.specs.Rows.{counttomark_row};
 
-use press_fault::{PsName, StackOverflow};
+use press_fault::PsName;
 use press_nums::Whole;
 use ps_store::{MAX_OPERANDS, Obj, OpFault, Stack};
 
@@ -13,10 +13,8 @@ pub(crate) fn push(stack: &mut Stack, o: Obj) -> Result<(), OpFault>
     ensures answers { Answers (pushed o stack.old) result stack.old stack.new }
     ensures never { result ≢ Err OpFault.NoMemory }
 {
-    match stack.push(o) {
-        Ok(()) => Ok(()),
-        Err(StackOverflow) => Err(OpFault::Ps(PsName::StackOverflow)),
-    }
+    stack.push(o)?;
+    Ok(())
 }
 
 pub(crate) fn pop(stack: &mut Stack) -> Result<(), OpFault>

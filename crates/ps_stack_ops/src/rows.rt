@@ -2,6 +2,7 @@
 ghost use Rattle.std.specs.Prelude.{◌≡◌, ◌≢◌, Err};
 ghost use Rattle.ps_store.specs.Outcome.{Answers, TellsRefusal};
 ghost use Rattle.ps_stack_ops.specs.Rows.{stack_row, of_one, of_two};
+ghost use Rattle.ps_store.specs.Calls.{StoreAnswers};
 
 use crate::arithmetic::{
     Abs, Add, Ceiling, Cos, Cvi, Cvr, Div, Floor, Idiv, Mod, Mul, Neg, Round, Sin, Sqrt, Sub,
@@ -21,9 +22,8 @@ use ps_store::{Obj, OpFault, Stack, StackOp, Store};
 /// memory comes of `copy` alone, and never in place of a refusal.
 #[tactic(auto, using(crate::proofs::Lifted::lifted, crate::proofs::Lifted::told), unfolding(crate::specs::Rows::stack_row))]
 pub fn run_stack(op: StackOp, stack: &mut Stack, store: &mut Store) -> Result<(), OpFault>
-    ensures answers { Answers (stack_row op stack.old store.old) result
-        (record { operands = stack.old; store = store.old })
-        (record { operands = stack.new; store = store.new }) }
+    ensures answers { StoreAnswers (stack_row op stack.old store.old)
+        result stack.old store.old stack.new store.new }
     ensures refused { TellsRefusal (stack_row op stack.old store.old) result }
     ensures memory { result ≡ Err OpFault.NoMemory → op ≡ StackOp.Copy }
 {
@@ -105,13 +105,9 @@ fn of_one<V: OneOperand>(stack: &mut Stack) -> Result<(), OpFault>
     let Some(a) = stack.top() else {
         return Err(OpFault::Ps(PsName::StackUnderflow));
     };
-    match V::value(a) {
-        Ok(value) => {
-            stack.replace(1, value);
-            Ok(())
-        }
-        Err(name) => Err(OpFault::Ps(name)),
-    }
+    let value = V::value(a)?;
+    stack.replace(1, value);
+    Ok(())
 }
 
 /// Puts the value of an operator in the place of its two operands.
@@ -122,11 +118,7 @@ fn of_two<V: TwoOperands>(stack: &mut Stack, store: &Store) -> Result<(), OpFaul
     let Some((b, a)) = stack.top_two() else {
         return Err(OpFault::Ps(PsName::StackUnderflow));
     };
-    match V::value(store, a, b) {
-        Ok(value) => {
-            stack.replace(2, value);
-            Ok(())
-        }
-        Err(name) => Err(OpFault::Ps(name)),
-    }
+    let value = V::value(store, a, b)?;
+    stack.replace(2, value);
+    Ok(())
 }

@@ -1,20 +1,26 @@
 -- The operators (PostScript Language Reference, third edition, 8.1 Operator Summary).
 -- Own rule: an operator's number is its place, from 0, in the table of all 145 operators of this
 -- interpreter, in the order: operands, arithmetic, values and composites, control, input, graphics state,
--- matrices, paths, painting, pages, fonts. So a number stays when operators are added.
+-- matrices, paths, painting, pages, fonts. All have their numbers, built or not, so a number stays.
 use Rattle.std.specs.Prelude.{ℕ, Bool, true, ◌&&◌, nat_lt, List, [], ◌∷◌, codes}
 use Rattle.ps_store.specs.declared.oper.StackOp.{StackOp}
 use Rattle.ps_store.specs.declared.oper.DataOp.{DataOp}
 use Rattle.ps_store.specs.declared.oper.FlowOp.{FlowOp}
 use Rattle.ps_store.specs.declared.oper.GfxOp.{GfxOp}
 use Rattle.ps_store.specs.declared.oper.PageOp.{PageOp}
+use Rattle.ps_store.specs.declared.oper.SpaceOp.{SpaceOp}
+use Rattle.ps_store.specs.declared.oper.ImageOp.{ImageOp}
+use Rattle.ps_store.specs.declared.oper.FontOp.{FontOp}
 use Rattle.ps_store.specs.declared.oper.StackOp.TheVariants as OnStack
 use Rattle.ps_store.specs.declared.oper.DataOp.TheVariants as OnData
 use Rattle.ps_store.specs.declared.oper.FlowOp.TheVariants as OnFlow
 use Rattle.ps_store.specs.declared.oper.GfxOp.TheVariants as OnGfx
 use Rattle.ps_store.specs.declared.oper.PageOp.TheVariants as OnPage
+use Rattle.ps_store.specs.declared.oper.SpaceOp.TheVariants as OnSpace
+use Rattle.ps_store.specs.declared.oper.ImageOp.TheVariants as OnImage
+use Rattle.ps_store.specs.declared.oper.FontOp.TheVariants as OnFont
 use Rattle.ps_store.specs.declared.oper.Oper.{Oper}
-use Rattle.ps_store.specs.declared.oper.Oper.TheVariants.{Stack, Data, Flow, Gfx, Page}
+use Rattle.ps_store.specs.declared.oper.Oper.TheVariants.{Stack, Data, Flow, Gfx, Page, Space, Image, Font}
 
 -- the number of an operator on the operands: 0 to 40
 abbrev pub stack_number_of : StackOp → ℕ
@@ -163,6 +169,28 @@ abbrev pub page_number_of : PageOp → ℕ
 page_number_of OnPage.Quit = 80
 page_number_of OnPage.Showpage = 134
 
+-- the number of an operator on colour spaces: 99, 100
+abbrev pub space_number_of : SpaceOp → ℕ
+space_number_of OnSpace.Setcolorspace = 99
+space_number_of OnSpace.Setcolor = 100
+
+-- the number of an operator that paints an image: 131 to 133
+abbrev pub image_number_of : ImageOp → ℕ
+image_number_of OnImage.Image = 131
+image_number_of OnImage.Imagemask = 132
+image_number_of OnImage.Colorimage = 133
+
+-- the number of an operator on fonts: 137 to 144
+abbrev pub font_number_of : FontOp → ℕ
+font_number_of OnFont.Definefont = 137
+font_number_of OnFont.Findfont = 138
+font_number_of OnFont.Scalefont = 139
+font_number_of OnFont.Makefont = 140
+font_number_of OnFont.Setfont = 141
+font_number_of OnFont.Show = 142
+font_number_of OnFont.Setcharwidth = 143
+font_number_of OnFont.Setcachedevice = 144
+
 -- an operator's place, from 0, in the table of all 145
 abbrev pub number_of : Oper → ℕ
 number_of (Stack op) = stack_number_of op
@@ -170,6 +198,9 @@ number_of (Data op) = data_number_of op
 number_of (Flow op) = flow_number_of op
 number_of (Gfx op) = gfx_number_of op
 number_of (Page op) = page_number_of op
+number_of (Space op) = space_number_of op
+number_of (Image op) = image_number_of op
+number_of (Font op) = font_number_of op
 
 -- the name of an operator on the operands
 abbrev pub stack_name_of : StackOp → List ℕ
@@ -318,6 +349,28 @@ abbrev pub page_name_of : PageOp → List ℕ
 page_name_of OnPage.Quit = codes "quit"
 page_name_of OnPage.Showpage = codes "showpage"
 
+-- the name of an operator on colour spaces
+abbrev pub space_name_of : SpaceOp → List ℕ
+space_name_of OnSpace.Setcolorspace = codes "setcolorspace"
+space_name_of OnSpace.Setcolor = codes "setcolor"
+
+-- the name of an operator that paints an image
+abbrev pub image_name_of : ImageOp → List ℕ
+image_name_of OnImage.Image = codes "image"
+image_name_of OnImage.Imagemask = codes "imagemask"
+image_name_of OnImage.Colorimage = codes "colorimage"
+
+-- the name of an operator on fonts
+abbrev pub font_name_of : FontOp → List ℕ
+font_name_of OnFont.Definefont = codes "definefont"
+font_name_of OnFont.Findfont = codes "findfont"
+font_name_of OnFont.Scalefont = codes "scalefont"
+font_name_of OnFont.Makefont = codes "makefont"
+font_name_of OnFont.Setfont = codes "setfont"
+font_name_of OnFont.Show = codes "show"
+font_name_of OnFont.Setcharwidth = codes "setcharwidth"
+font_name_of OnFont.Setcachedevice = codes "setcachedevice"
+
 -- the name by which a program calls an operator
 abbrev pub name_of : Oper → List ℕ
 name_of (Stack op) = stack_name_of op
@@ -325,8 +378,11 @@ name_of (Data op) = data_name_of op
 name_of (Flow op) = flow_name_of op
 name_of (Gfx op) = gfx_name_of op
 name_of (Page op) = page_name_of op
+name_of (Space op) = space_name_of op
+name_of (Image op) = image_name_of op
+name_of (Font op) = font_name_of op
 
--- the operators that are built, in the order of their numbers
+-- the operators that are built, in the order of their numbers: none on colour spaces, images and fonts yet
 abbrev pub operators_built : List Oper
 operators_built = Stack OnStack.Pop ∷ Stack OnStack.Exch ∷ Stack OnStack.Dup ∷
     Stack OnStack.Clear ∷ Stack OnStack.Count ∷ Stack OnStack.Copy ∷ Stack OnStack.Index ∷

@@ -26,6 +26,6 @@ pub use fault::OpFault;
 pub use key::{Key, KeyFault};
 pub use numbers::{byte_in, number, place_in};
 pub use obj::{Obj, Part};
-pub use oper::{DataOp, FlowOp, GfxOp, Oper, PageOp, StackOp};
+pub use oper::{DataOp, FlowOp, FontOp, GfxOp, ImageOp, Oper, PageOp, SpaceOp, StackOp};
 pub use stack::{MAX_OPERANDS, Stack};
 pub use store::{Composite, Store};

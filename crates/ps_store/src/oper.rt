@@ -1,7 +1,8 @@
 //! The operators, by the crate that does each, with their numbers and names.
 ghost use Rattle.std.specs.Prelude.{◌≡◌, ◌≤◌, length, map, IsTrue};
 ghost use Rattle.ps_store.specs.Operators.{number_of, name_of, stack_name_of, data_name_of, flow_name_of, gfx_name_of};
-ghost use Rattle.ps_store.specs.Operators.{page_name_of, operators_built, is_rising};
+ghost use Rattle.ps_store.specs.Operators.{page_name_of, space_name_of, image_name_of, font_name_of};
+ghost use Rattle.ps_store.specs.Operators.{operators_built, is_rising};
 
 /// Operators on the operands alone, and `copy`.
 #[derive(Clone, Copy, Debug, PartialEq, Eq)]
@@ -153,6 +154,34 @@ pub enum GfxOp {
     Setpagedevice = 136,
 }
 
+/// Operators on colours of a colour space that the program chooses. None is built.
+#[derive(Clone, Copy, Debug, PartialEq, Eq)]
+pub enum SpaceOp {
+    Setcolorspace = 99,
+    Setcolor = 100,
+}
+
+/// Operators that paint sampled images. None is built.
+#[derive(Clone, Copy, Debug, PartialEq, Eq)]
+pub enum ImageOp {
+    Image = 131,
+    Imagemask = 132,
+    Colorimage = 133,
+}
+
+/// Operators on fonts, and those by which a glyph tells its width. None is built.
+#[derive(Clone, Copy, Debug, PartialEq, Eq)]
+pub enum FontOp {
+    Definefont = 137,
+    Findfont = 138,
+    Scalefont = 139,
+    Makefont = 140,
+    Setfont = 141,
+    Show = 142,
+    Setcharwidth = 143,
+    Setcachedevice = 144,
+}
+
 /// The operators that end the program or give a page.
 #[derive(Clone, Copy, Debug, PartialEq, Eq)]
 pub enum PageOp {
@@ -169,6 +198,9 @@ pub enum Oper {
     Flow(FlowOp),
     Gfx(GfxOp),
     Page(PageOp),
+    Space(SpaceOp),
+    Image(ImageOp),
+    Font(FontOp),
 }
 
 /// The operators that are built, in the order of their numbers.
@@ -308,8 +340,7 @@ const BUILT: [Oper; 132] = [
 ];
 
 impl Oper {
-    /// The operator's place in the table of all operators, from 0. The table also names those that
-    /// aren't built, so there are gaps.
+    /// The operator's place in the table of all operators, from 0, built or not.
     pub fn number(self) -> u8
         ensures { result ≡ number_of self }
     {
@@ -319,6 +350,9 @@ impl Oper {
             Oper::Flow(op) => op as u8,
             Oper::Gfx(op) => op as u8,
             Oper::Page(op) => op as u8,
+            Oper::Space(op) => op as u8,
+            Oper::Image(op) => op as u8,
+            Oper::Font(op) => op as u8,
         }
     }
 
@@ -333,10 +367,13 @@ impl Oper {
             Oper::Flow(op) => flow_name(op),
             Oper::Gfx(op) => gfx_name(op),
             Oper::Page(op) => page_name(op),
+            Oper::Space(op) => space_name(op),
+            Oper::Image(op) => image_name(op),
+            Oper::Font(op) => font_name(op),
         }
     }
 
-    /// The operators that are built, in the order of their numbers.
+    /// The operators that are built, in the order of their numbers: no program finds another one.
     pub fn built() -> &'static [Oper]
         ensures value { result.now ≡ operators_built }
         ensures ordered { IsTrue (is_rising (map number_of result.now)) }
@@ -514,5 +551,42 @@ fn page_name(op: PageOp) -> &'static str
     match op {
         PageOp::Quit => "quit",
         PageOp::Showpage => "showpage",
+    }
+}
+
+fn space_name(op: SpaceOp) -> &'static str
+    ensures value { result.now ≡ space_name_of op }
+    ensures short { length result.now ≤ 127 }
+{
+    match op {
+        SpaceOp::Setcolorspace => "setcolorspace",
+        SpaceOp::Setcolor => "setcolor",
+    }
+}
+
+fn image_name(op: ImageOp) -> &'static str
+    ensures value { result.now ≡ image_name_of op }
+    ensures short { length result.now ≤ 127 }
+{
+    match op {
+        ImageOp::Image => "image",
+        ImageOp::Imagemask => "imagemask",
+        ImageOp::Colorimage => "colorimage",
+    }
+}
+
+fn font_name(op: FontOp) -> &'static str
+    ensures value { result.now ≡ font_name_of op }
+    ensures short { length result.now ≤ 127 }
+{
+    match op {
+        FontOp::Definefont => "definefont",
+        FontOp::Findfont => "findfont",
+        FontOp::Scalefont => "scalefont",
+        FontOp::Makefont => "makefont",
+        FontOp::Setfont => "setfont",
+        FontOp::Show => "show",
+        FontOp::Setcharwidth => "setcharwidth",
+        FontOp::Setcachedevice => "setcachedevice",
     }
 }
