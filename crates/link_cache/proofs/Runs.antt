@@ -63,6 +63,7 @@ next_few next (Release seat res) = omega arith
 next_few next (WaitKey seat key res) = omega arith
 next_few next (WaitRoom seat key) = omega arith
 
+-- a step leaves the number of seats
 pub same_seats : (phases : List Phase) (step : Step) → length (phases_after phases step) ≡ length phases
 unfolding phases_after
 same_seats phases (Hit seat key res) = length-set phases seat (Holding res)
