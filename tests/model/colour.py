@@ -3,7 +3,9 @@
 Numbers are whole: of the connection space in 1/65536, of a curve or a lut 16 or 8 bits.
 """
 
+import dataclasses
 from fractions import Fraction
+from typing import Optional
 
 
 def nearest(number):
@@ -113,6 +115,161 @@ def lab_to_xyz(lab):
             number = div_round(white * 108 * (29 * f - (4 << 20)), 24389 << 20)
         xyz.append(clamp(number, 0, 131070))
     return xyz
+
+# profiles
+
+
+@dataclasses.dataclass
+class Lut:
+    """A lut: bits of its values, points along a channel, matrix by rows, a table for each channel, nodes."""
+    bits: int
+    grid: int
+    matrix: list
+    before: list
+    nodes: list
+    after: list
+
+
+@dataclasses.dataclass
+class Matrix:
+    """Columns of X, Y and Z for red, green and blue, and their curves."""
+    columns: list
+    curves: list
+
+
+@dataclasses.dataclass
+class Gray:
+    curve: Optional[list]
+
+
+@dataclasses.dataclass
+class Profile:
+    """A matrix or a gray curve, and luts by the numbers of their intents."""
+    is_lab: bool
+    base: object = None
+    forward: dict = dataclasses.field(default_factory=dict)
+    backward: dict = dataclasses.field(default_factory=dict)
+
+
+PERCEPTUAL, RELATIVE, SATURATION = range(3)
+
+
+def chosen(luts, intent):
+    """The lut of an intent, else the perceptual one, if there is one."""
+    return luts.get(intent, luts.get(PERCEPTUAL))
+
+
+def table_at(bits, table, value):
+    """A table of 16 bits is read between its entries, one of 8 bits has an entry for each value."""
+    return curve_at(table, value) if bits == 16 else table[value]
+
+
+def lut_at(lut, values):
+    before = [table_at(lut.bits, *pair) for pair in zip(lut.before, values)]
+    middle = lattice_at(2**lut.bits - 1, lut.grid, lut.nodes, before)
+    return [table_at(lut.bits, *pair) for pair in zip(lut.after, middle)]
+
+
+# What a step of each encoding of the connection space is, and the value that stands for 0.
+XYZ_16 = (Fraction(1, 32768), 0)
+LIGHTNESS = {16: (Fraction(100, 0xFF00), 0), 8: (Fraction(100, 255), 0)}
+CHROMA = {16: (Fraction(1, 256), 0x8000), 8: (Fraction(1), 0x80)}
+
+
+def encodings(is_lab, bits):
+    if is_lab:
+        return [LIGHTNESS[bits], CHROMA[bits], CHROMA[bits]]
+    return [XYZ_16] * 3
+
+
+def ranges(is_lab):
+    return [(0, 6553600), (-8388608, 8388352), (-8388608, 8388352)] if is_lab else [(0, 131070)] * 3
+
+
+def in_space(is_lab, numbers):
+    """Numbers as counts of 1/65536, each in its range."""
+    return [clamp(nearest(65536 * number), *ends) for number, ends in zip(numbers, ranges(is_lab))]
+
+
+def from_matrix(base, code):
+    linear = [Fraction(curve_at(curve, 257 * value), 65535) for curve, value in zip(base.curves, code)]
+    sums = [sum(column[row] * part for column, part in zip(base.columns, linear)) for row in range(3)]
+    return in_space(False, [total / 65536 for total in sums])
+
+
+def from_gray(base, is_lab, code):
+    part = Fraction(curve_at(base.curve, 257 * code[0]), 65535)
+    white = [100 * 65536, 0, 0] if is_lab else WHITE
+    return in_space(is_lab, [number * part / 65536 for number in white])
+
+
+def from_lut(lut, is_lab, code):
+    values = lut_at(lut, [257 * value if lut.bits == 16 else value for value in code])
+    return in_space(is_lab, [(value - none) * step
+                             for value, (step, none) in zip(values, encodings(is_lab, lut.bits))])
+
+
+def source(profile, intent, code):
+    """A code as numbers of the profile's connection space."""
+    lut = chosen(profile.forward, intent)
+    if lut:
+        return from_lut(lut, profile.is_lab, code)
+    if isinstance(profile.base, Matrix):
+        return from_matrix(profile.base, code)
+    return from_gray(profile.base, profile.is_lab, code)
+
+
+def solved(columns, numbers):
+    """The parts of three columns that make up three numbers, by elimination; nothing where there are none or many."""
+    rows = [[Fraction(column[row]) for column in columns] + [Fraction(numbers[row])] for row in range(3)]
+    for place in range(3):
+        pivot = next((row for row in rows[place:] if row[place]), None)
+        if pivot is None:
+            return None
+        rows.remove(pivot)
+        rows.insert(place, pivot)
+        for row in rows:
+            if row is not pivot:
+                factor = row[place] / pivot[place]
+                row[:] = [a - factor * b for a, b in zip(row, pivot)]
+    return [row[3] / row[place] for place, row in enumerate(rows)]
+
+
+def to_matrix(base, xyz):
+    linear = [clamp(nearest(65535 * part), 0, 65535) for part in solved(base.columns, xyz)]
+    return [curve_back(curve, value) for curve, value in zip(base.curves, linear)]
+
+
+def to_lut(lut, is_lab, numbers):
+    top = 2**lut.bits - 1
+    values = [clamp(nearest(Fraction(number, 65536) / step) + none, 0, top)
+              for number, (step, none) in zip(numbers, encodings(is_lab, lut.bits))]
+    if not is_lab:
+        values = [clamp(nearest(sum(Fraction(a * b, 65536) for a, b in zip(row, values))), 0, top)
+                  for row in lut.matrix]
+    return [65535 // top * value for value in lut_at(lut, values)]
+
+
+def can_receive(profile, intent):
+    if chosen(profile.backward, intent):
+        return True
+    return isinstance(profile.base, Matrix) and solved(profile.base.columns, (0, 0, 0)) is not None
+
+
+def direct_wide(source_profile, target, intent, code):
+    """The three values of 16 bits of a code through two profiles."""
+    numbers = source(source_profile, intent, code)
+    if source_profile.is_lab and not target.is_lab:
+        numbers = lab_to_xyz(numbers)
+    if target.is_lab and not source_profile.is_lab:
+        numbers = xyz_to_lab(numbers)
+    lut = chosen(target.backward, intent)
+    return to_lut(lut, target.is_lab, numbers) if lut else to_matrix(target.base, numbers)
+
+
+def direct(source_profile, target, intent, code):
+    """The same in 8 bits."""
+    return [nearest(Fraction(255 * value, 65535)) for value in direct_wide(source_profile, target, intent, code)]
 
 
 if __name__ == "__main__":
