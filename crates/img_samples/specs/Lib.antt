@@ -1,0 +1,4 @@
+pub mod Decoding
+pub mod Rows
+pub mod Gathering
+pub mod Code
