@@ -1,26 +1,26 @@
-//! One million rounds of look, build, publish and release on a cache of 8 entries.
-//!
-//! 16 keys are used in turn, so each round past the first 8 evicts the least recently used entry. The
-//! journal is settled each 1,000 rounds. Standard output has the counts.
-#![tactic(auto)]
+//! Rounds of look, build, publish and release on a cache of 8 entries: a million, or a thousand. 16 keys are used
+//! in turn, so each round past the first 8 evicts the least recently used entry. The journal is settled each 1,000
+//! rounds.
 
 ghost use Rattle.std.specs.Prelude.{◌∷◌, []};
 
+use crate::{Size, no_memory};
 use link_cache::{CacheState, Look, Made, Maker, Order, make};
 use press_fault::Mem;
 use std::alloc::Global;
 use std::io;
+use std::time::Instant;
 
 const CAPACITY: u32 = 8;
 
 const KEYS: u32 = 16;
 
-/// The journal is settled so many times, each time after as many rounds.
+/// The journal is settled after so many rounds.
 const THOUSAND: u32 = 1_000;
 
 /// A value that keeps its key.
 #[derive(Drop)]
-struct Number {
+pub(crate) struct Number {
     key: u32,
 }
 
@@ -45,7 +45,7 @@ impl Made for Number {
 }
 
 /// Makes the value of a key from the key alone.
-struct Plain;
+pub(crate) struct Plain;
 
 impl Maker<Number> for Plain {
     fn make(&self, _alloc: Global, order: &Order<Number>) -> Mem<Number> {
@@ -96,21 +96,24 @@ fn serve_thousand(alloc: Global, state: &mut CacheState<Number>, first: u32) -> 
     Ok(())
 }
 
-fn serve_all(alloc: Global) -> Mem<CacheState<Number>> {
+fn serve_all(alloc: Global, thousands: u32) -> Mem<CacheState<Number>> {
     let mut state = CacheState::<Number>::new(alloc, CAPACITY, 1)?;
-    for n in 0..THOUSAND {
-        serve_thousand(alloc, &mut state, n * THOUSAND)?;
+    for n in 0..thousands {
+        serve_thousand(alloc, &mut state, n.wrapping_mul(THOUSAND))?;
     }
     Ok(state)
 }
 
-fn main(rt: HostRuntime) -> io::Result<()> {
-    let Ok(state) = serve_all(rt.alloc()) else {
-        return Ok(());
+pub(crate) fn run(rt: &HostRuntime, size: Size) -> io::Result<()> {
+    let thousands = size.rounds(1_000, 1);
+    let start = Instant::now(rt)?;
+    let Ok(state) = serve_all(rt.alloc(), thousands) else {
+        return Err(no_memory());
     };
+    let took = start.elapsed(rt)?;
     let counts = state.counts();
     println!(rt;
-        "{} leases, {} built, {} evicted, {} resident, {} keys, {} steps in the journal",
+        "cache: {} leases, {} built, {} evicted, {} resident, {} keys, {} steps in the journal",
         counts.leases,
         counts.built,
         counts.evicted,
@@ -118,5 +121,6 @@ fn main(rt: HostRuntime) -> io::Result<()> {
         counts.keys,
         state.journal().len()
     )?;
+    eprintln!(rt; "cache: {} us", took.as_micros())?;
     Ok(())
 }

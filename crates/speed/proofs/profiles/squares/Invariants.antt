@@ -1,5 +1,5 @@
 use Rattle.std.proofs.Common.{◌≡◌, length}
-use Rattle.colour_speed.proofs.profiles.squares.Given as goal
+use Rattle.speed.proofs.profiles.squares.Given as goal
 
 -- as many entries as places so far
 abbrev pub invariant-loop-k : goal.invariant-loop-k

@@ -1,14 +1,10 @@
-//! How fast colours go through two profiles.
-//!
-//! Standard output has a line for each case: how many colours, and a sum of them. Standard error has
-//! the nanoseconds that they took.
-#![tactic(auto)]
-
-mod profiles;
+//! How fast colours go through two profiles, 200,000 of each kind: how many, and a sum of them; the nanoseconds
+//! that they took.
 
 ghost use Rattle.std.specs.Prelude.{◌≡◌, ◌⊎◌, IsTrue};
 ghost use Rattle.icc_model.specs.Direct.{can_receive};
 
+use crate::no_memory;
 use crate::profiles::{Words, of_lattice, of_matrix};
 use icc_model::{Intent, Profile, direct};
 use press_fault::{Code, Mem};
@@ -81,8 +77,8 @@ fn case(
     let start = Instant::now(rt)?;
     let sum = sum_of(source, target, codes);
     let time = start.elapsed(rt)?;
-    println!(rt; "{name}: {} colours, sum {sum}", codes.len())?;
-    eprintln!(rt; "{name}: {} ns", time.as_nanos())?;
+    println!(rt; "colour, {name}: {} colours, sum {sum}", codes.len())?;
+    eprintln!(rt; "colour, {name}: {} ns", time.as_nanos())?;
     Ok(())
 }
 
@@ -105,10 +101,10 @@ fn prepared(alloc: Global) -> Mem<Setting> {
     })
 }
 
-fn main(rt: HostRuntime) -> io::Result<()> {
+pub(crate) fn run(rt: &HostRuntime) -> io::Result<()> {
     let Ok(s) = prepared(rt.alloc()) else {
-        return Err(io::Error::from(ErrorKind::OutOfMemory));
+        return Err(no_memory());
     };
-    case(&rt, "matrix to matrix", &s.matrix, &s.target, &s.codes)?;
-    case(&rt, "lattice to matrix", &s.lattice, &s.target, &s.codes)
+    case(rt, "matrix to matrix", &s.matrix, &s.target, &s.codes)?;
+    case(rt, "lattice to matrix", &s.lattice, &s.target, &s.codes)
 }

@@ -1,6 +1,6 @@
 use Rattle.std.proofs.Common.{◌≡◌, length}
 use Rattle.icc_tables.specs.Lattice.{AreAtMost}
-use Rattle.colour_speed.proofs.profiles.Words.values.Given as goal
+use Rattle.speed.proofs.profiles.Words.values.Given as goal
 
 -- as many values as words so far, each of 16 bits
 abbrev pub invariant-loop : goal.invariant-loop

@@ -1,8 +1,5 @@
-//! How fast polygons are filled row by row by the walk over their edges.
-//!
-//! Standard output has a line for each case: how many spans, and a sum of their places. Standard error
-//! has the nanoseconds of making the walks, and of their rows.
-#![tactic(auto)]
+//! How fast polygons are filled row by row by the walk over their edges: how many spans, and a sum of their
+//! places; the nanoseconds of making the walks, and of their rows.
 
 ghost use Rattle.std.specs.Prelude.{◌≡◌, ◌≤◌, ◌<◌, ◌+◌};
 
@@ -145,7 +142,7 @@ struct Times {
     walked: u128,
 }
 
-fn run(
+fn filled(
     rt: &HostRuntime,
     plan: &Plan,
     shape: &Shape,
@@ -180,15 +177,15 @@ fn case(rt: &HostRuntime, name: &str, count: u16, plan: &Plan, width: u32) -> io
             return Ok(());
         }
         if let Ok(shape) = polygon(rt.alloc(), &mut words, &here) {
-            run(rt, &here, &shape, width, &mut out, &mut walked, &mut times)?;
+            filled(rt, &here, &shape, width, &mut out, &mut walked, &mut times)?;
         }
     }
-    println!(rt; "{name}: {} spans, sum {}", walked.spans, walked.sum)?;
-    eprintln!(rt; "{name}: make {} walk {}", times.made, times.walked)?;
+    println!(rt; "fill, {name}: {} spans, sum {}", walked.spans, walked.sum)?;
+    eprintln!(rt; "fill, {name}: make {} walk {}", times.made, times.walked)?;
     Ok(())
 }
 
-fn main(rt: HostRuntime) -> io::Result<()> {
+pub(crate) fn run(rt: &HostRuntime) -> io::Result<()> {
     let eight = Plan {
         corners: 8,
         left: 0,
@@ -213,11 +210,11 @@ fn main(rt: HostRuntime) -> io::Result<()> {
         height: 1754,
         kind: Kind::Gentle,
     };
-    case(&rt, "eight edges", 1, &eight, 5100)?;
-    case(&rt, "a thousand small", 1000, &small, 1240)?;
-    case(&rt, "four thousand gentle", 1, &page, 1240)?;
+    case(rt, "eight edges", 1, &eight, 5100)?;
+    case(rt, "a thousand small", 1000, &small, 1240)?;
+    case(rt, "four thousand gentle", 1, &page, 1240)?;
     case(
-        &rt,
+        rt,
         "four thousand scattered",
         1,
         &Plan {
@@ -227,7 +224,7 @@ fn main(rt: HostRuntime) -> io::Result<()> {
         1240,
     )?;
     case(
-        &rt,
+        rt,
         "four thousand steep",
         1,
         &Plan {
