@@ -261,8 +261,7 @@ impl Stack {
         ensures { self.new ≡ rolled n j self.old }
     {
         let from = self.items.len() - n;
-        let (_, part) = self.items.as_mut_slice().split_at_mut(from);
-        turn(part, n - j);
+        turn(self.items.as_mut_slice(), from, n - j);
     }
 }
 
@@ -283,7 +282,7 @@ fn repeat_from(items: &mut ArrayVec<Obj, MAX_OPERANDS>, from: usize)
 {
     let end = items.len();
     for at in from..end {
-        let o = items[at];
+        let o = items[at].again();
         items.push(o);
     }
 }
