@@ -35,7 +35,7 @@ fn numbers_are_places_in_the_table(rt: HostRuntime) {
 
 /// The numbers of a string, a dictionary and an array, made in this order.
 fn numbers(alloc: Global) -> Result<(u32, u32, u32), Fail> {
-    let mut store = Store::new(alloc);
+    let mut store = Store::new(alloc)?;
     let text = store.new_text_of(b"abcd")?;
     let dict = store.new_dict()?;
     let array = store.new_array_of(&[Obj::Mark, Obj::Null])?;
