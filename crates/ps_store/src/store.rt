@@ -173,9 +173,9 @@ impl Store {
 
     /// Gives a key of a dictionary a value. A key that is there keeps its place and its kind. A
     /// refusal, by a limit or out of memory, leaves the store as it was.
-    pub fn define(&mut self, dict: u32, key: Sought, value: Obj) -> Result<(), Grow>
-        ensures ok { OnOk result (defined self.old dict key value ≡ Some self.new) }
-        ensures limit { IsErrOf result Grow.LimitCheck ↔ (defined self.old dict key value ≡ None) }
+    pub fn define(&mut self, dict: u32, key: &Sought, value: Obj) -> Result<(), Grow>
+        ensures ok { OnOk result (defined self.old dict key.now value ≡ Some self.new) }
+        ensures limit { IsErrOf result Grow.LimitCheck ↔ (defined self.old dict key.now value ≡ None) }
         ensures err { OnErr result (self.new ≡ self.old) }
     {
         let id = dict as usize;
@@ -184,7 +184,7 @@ impl Store {
         }
         // The key is looked up beforehand only where a new one would be refused.
         let has_room = !is_full(&self.made[id]) && self.fits(0, 32);
-        if !has_room && is_missing(&self.made[id], &key) {
+        if !has_room && is_missing(&self.made[id], key) {
             return Err(Grow::LimitCheck);
         }
         let key = self.key(key)?;
@@ -304,14 +304,13 @@ impl Store {
     }
 
     /// A key that a dictionary can hold. Of a name a symbol is made, if it has none yet.
-    pub fn key(&mut self, key: Sought) -> Mem<Key>
-        ensures ok { IfOk result (λ made. made ≡ key) }
+    pub fn key(&mut self, key: &Sought) -> Mem<Key>
+        ensures ok { IfOk result (λ made. made ≡ key.now) }
         ensures same { self.new ≡ self.old }
     {
-        let Sought { by } = key;
-        match by {
-            By::Key(key) => Ok(key),
-            By::Name(name) => Ok(Key::Named(self.symbol(&name)?)),
+        match &key.by {
+            By::Key(key) => Ok(key.again()),
+            By::Name(name) => Ok(Key::Named(self.symbol(name)?)),
         }
     }
 
