@@ -18,7 +18,7 @@ use crate::key::{Key, KeyFault};
 use crate::numbers::byte_in;
 use crate::obj::{Obj, Part};
 use crate::oper::Oper;
-use crate::sought::{By, Sought};
+use crate::sought::Sought;
 use crate::symbol::Symbol;
 use crate::symbols::Symbols;
 use crate::type_names::TypeNames;
@@ -187,7 +187,7 @@ impl Store {
         if !has_room && is_missing(&self.made[id], key) {
             return Err(Grow::LimitCheck);
         }
-        let key = self.key(key)?;
+        let key = self.symbols.key(self.alloc, key)?;
         let is_new = define_in(&mut self.made[id], key, value)?;
         if is_new {
             self.units += 32;
@@ -308,10 +308,7 @@ impl Store {
         ensures ok { IfOk result (λ made. made ≡ key.now) }
         ensures same { self.new ≡ self.old }
     {
-        match &key.by {
-            By::Key(key) => Ok(key.again()),
-            By::Name(name) => Ok(Key::Named(self.symbol(name)?)),
-        }
+        self.symbols.key(self.alloc, key)
     }
 
     /// The symbol of a name, made if there is none yet.

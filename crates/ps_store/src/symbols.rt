@@ -1,6 +1,8 @@
 //! The table of symbols, in which each name is kept once.
 ghost use Rattle.std.specs.Prelude.{◌≡◌, ◌≤◌, length, IfSome, IfOk};
 
+use crate::key::Key;
+use crate::sought::{By, Sought};
 use crate::symbol::Symbol;
 use indexmap::IndexMap;
 use press_fault::{Mem, Name};
@@ -41,6 +43,16 @@ impl Symbols {
                 self.by_bytes.insert(symbol.bytes(), symbol.again())?;
                 Ok(symbol)
             }
+        }
+    }
+
+    /// A key that a dictionary can hold: the name that it may be is kept from now on.
+    pub(crate) fn key(&mut self, alloc: Global, key: &Sought) -> Mem<Key>
+        ensures { IfOk result (λ made. made ≡ key.now) }
+    {
+        match &key.by {
+            By::Key(key) => Ok(key.again()),
+            By::Name(name) => Ok(Key::Named(self.keep(alloc, name)?)),
         }
     }
 
