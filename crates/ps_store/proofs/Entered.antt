@@ -68,7 +68,7 @@ count_less es e (d ∷ more) =
     omega (arith, first, rest, before, after)
 
 -- the entry at a place comes next
-next_entry : (xs : List (Key × Obj)) (i : ℕ) (e : Key × Obj) → slice_get xs i ≡ Some e → drop i xs ≡ e ∷ drop (i + 1) xs
+pub next_entry : (xs : List (Key × Obj)) (i : ℕ) (e : Key × Obj) → slice_get xs i ≡ Some e → drop i xs ≡ e ∷ drop (i + 1) xs
 next_entry xs i e is = drop_more xs i e (slice_get_within xs i e is)
     ∙ ap (λ d. d ∷ drop (i + 1) xs) (get_or_from_slice_get xs i e e is)
 
@@ -113,3 +113,17 @@ room_for es xs i e is held missing =
     let next = count_next es xs i e is in
     let here = none_is_one (lookup (same_key e.0) es) missing in
     omega (arith, held, next, here)
+
+-- what the entries from a place on give, where the one at the place fails the test
+pub skipped : (test : Key → Bool) (xs : List (Key × Obj)) (i : ℕ) (e : Key × Obj) (r : Option Obj) →
+    slice_get xs i ≡ Some e → test e.0 ≡ false → lookup test (drop i xs) ≡ r → lookup test (drop (i + 1) xs) ≡ r
+skipped test xs i e r is miss held =
+    sym (ap (lookup test) (next_entry xs i e is)
+    ∙ ap (λ b. cond b (Some e.1) (lookup test (drop (i + 1) xs))) miss) ∙ held
+
+-- what they give, where the one at the place passes the test
+pub met : (test : Key → Bool) (xs : List (Key × Obj)) (i : ℕ) (e : Key × Obj) (r : Option Obj) →
+    slice_get xs i ≡ Some e → test e.0 ≡ true → lookup test (drop i xs) ≡ r → Some e.1 ≡ r
+met test xs i e r is hit held =
+    sym (ap (lookup test) (next_entry xs i e is)
+    ∙ ap (λ b. cond b (Some e.1) (lookup test (drop (i + 1) xs))) hit) ∙ held

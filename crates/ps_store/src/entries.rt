@@ -78,11 +78,12 @@ impl Entries {
     fn look_up_bytes(&self, bytes: &[u8]) -> Option<&Obj>
         ensures { option_copied result ≡ lookup (same_key (Key.Named bytes.now)) self.now }
     {
-        for place in 0..self.map.len() {
-            if let Some((key, value)) = self.map.get_index(place) {
-                if is_spelled(key, bytes) {
-                    return Some(value);
-                }
+        for place in 0..self.len() {
+            let Some((key, value)) = self.at(place) else {
+                unreachable!();
+            };
+            if is_spelled(key, bytes) {
+                return Some(value);
             }
         }
         None

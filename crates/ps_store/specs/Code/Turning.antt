@@ -1,6 +1,6 @@
 -- Objects turned round in their list, each from its old place straight to its new one. Own rule: words of the code
 -- alone.
-use Rattle.std.specs.Prelude.{◌≡◌, ℕ, ◌+◌, ◌<◌, ◌≤◌, Bool, true, false, List, slice_index_or}
+use Rattle.std.specs.Prelude.{◌≡◌, ℕ, ◌+◌, ◌<◌, ◌≤◌, Bool, true, false, List, ◌++◌, take, drop, slice_index_or}
 use Rattle.ps_store.specs.declared.obj.Obj.{Obj}
 
 -- of n places that are turned by k, the object of place j goes to place i
@@ -23,3 +23,7 @@ pub record ArePartlyTurned (n k : ℕ) (before : List Obj) (settled : List Bool)
       slice_index_or now i d ≡ slice_index_or before j d
   pub waiting : (i : ℕ) (d : Obj) → i < n → slice_index_or settled i false ≡ false →
       slice_index_or now i d ≡ slice_index_or before i d
+
+-- the objects from a place on turned round by k places
+abbrev pub turned_from : ℕ → ℕ → List Obj → List Obj
+turned_from from k items = take from items ++ (drop k (drop from items) ++ take k (drop from items))

@@ -1,15 +1,19 @@
-use Rattle.std.proofs.Common.{◌≡◌, ◌-◌, ◌++◌, ap, ◌∙◌, length, take, drop, reverse}
+use Rattle.std.proofs.Common.{◌≡◌, ◌-◌, ◌++◌, refl, ap, ◌∙◌, length, take, drop, reverse}
 use Rattle.arrayvec.proofs.ArrayVecLemmas.{items-with_items}
-use Rattle.ps_store.proofs.Tops.{same_size, turned}
+use Rattle.ps_store.specs.Code.Turning.{turned_from}
+use Rattle.ps_store.proofs.Tops.{turned}
 use Rattle.ps_store.proofs.stack.Stack.roll.Goals as goal
 
 pub returns : goal.returns
 returns c =
-    let front = c.split_at_mut-part.result.0.now in
-    let size : length (front ++ c.turn.new.items) ≡ length c.self.inside.items.items =
-    same_size _ _ _ _ _ c.split_at_mut-part.ensures.value c.as_mut_slice.ensures.value c.turn.auto.items in
-    ap reverse (items-with_items c.self.inside.items (front ++ c.turn.new.items) size)
-    ∙ turned _ _ _ _ _ c.len.result c.args.n c.args.j c.self.view_is c.len.ensures.value c.requires.held c.requires.part
-    (c.split_at_mut-part.ensures.front ∙ ap (take (c.len.result - c.args.n)) c.as_mut_slice.ensures.value)
-    (c.split_at_mut-part.ensures.back ∙ ap (drop (c.len.result - c.args.n)) c.as_mut_slice.ensures.value)
-    c.turn.ensures
+    let xs = c.self.inside.items.items in
+    let from = c.len.result - c.args.n in
+    let k = c.args.n - c.args.j in
+    let whole : c.turn_from.new.items ≡ turned_from from k xs = c.turn_from.ensures
+    ∙ ap (turned_from from k) c.as_mut_slice.ensures.value in
+    let size : length c.turn_from.new.items ≡ length xs = c.turn_from.auto.items
+    ∙ ap length c.as_mut_slice.ensures.value in
+    ap reverse (items-with_items c.self.inside.items c.turn_from.new.items size)
+    ∙ (ap reverse whole
+    ∙ turned _ xs (take from xs) (drop from xs) (drop k (drop from xs) ++ take k (drop from xs)) c.len.result c.args.n
+    c.args.j c.self.view_is c.len.ensures.value c.requires.held c.requires.part refl refl refl)
