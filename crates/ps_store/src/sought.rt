@@ -40,8 +40,6 @@ impl Sought {
     pub fn name(name: Name) -> Sought
         ensures { result ≡ Key.Named name }
     {
-        Sought {
-            by: By::Name(name),
-        }
+        Sought { by: By::Name(name) }
     }
 }

@@ -5,7 +5,6 @@ ghost use Rattle.std.specs.List.{position_from};
 ghost use Rattle.std.specs.Option.{option_copied};
 ghost use Rattle.arrayvec.specs.ArrayVec.{array_vec_len};
 ghost use Rattle.ps_store.specs.Stack.{rolled, is_mark};
-ghost use Rattle.ps_store.specs.Code.Turning.{turned_from};
 
 use crate::obj::Obj;
 use crate::turning::turn;
@@ -262,18 +261,8 @@ impl Stack {
         ensures { self.new ≡ rolled n j self.old }
     {
         let from = self.items.len() - n;
-        turn_from(self.items.as_mut_slice(), from, n - j);
+        turn(self.items.as_mut_slice(), from, n - j);
     }
-}
-
-/// Turns the objects from a place on round by `k` places.
-fn turn_from(items: &mut [Obj], from: usize, k: usize)
-    requires part { from + k ≤ length items.old }
-    requires bound { length items.old ≤ 500 }
-    ensures { items.new ≡ turned_from from k items.old }
-{
-    let (_, part) = items.split_at_mut(from);
-    turn(part, k);
 }
 
 fn is_mark_at(o: &Obj) -> bool
