@@ -98,18 +98,23 @@ impl Elements {
     pub fn nulls(alloc: Global, len: usize) -> Mem<Elements>
         ensures { IfOk result (λ e. e ≡ replicate len Obj.Null) }
     {
-        Ok(Elements {
-            items: vec![in alloc; Obj::Null; len]?,
-        })
+        let mut items = Vec::with_capacity(alloc, len)?;
+        for at in 0..len {
+            let _ = at;
+            items.push(Obj::Null)?;
+        }
+        Ok(Elements { items })
     }
 
     /// Copies of these objects.
     pub fn of(alloc: Global, items: &[Obj]) -> Mem<Elements>
         ensures { IfOk result (λ e. e ≡ items.now) }
     {
-        Ok(Elements {
-            items: Vec::from_slice(alloc, items)?,
-        })
+        let mut held = Vec::with_capacity(alloc, items.len())?;
+        for at in 0..items.len() {
+            held.push(items[at].again())?;
+        }
+        Ok(Elements { items: held })
     }
 
     /// How many there are.
@@ -159,7 +164,7 @@ impl Elements {
         ensures { result ≡ slice_index_or self.now at Obj.Null }
     {
         if at < self.items.len() {
-            self.items[at]
+            self.items[at].again()
         } else {
             Obj::Null
         }

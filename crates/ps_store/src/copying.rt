@@ -11,7 +11,7 @@ ghost use Rattle.ps_store.specs.Copying.{placed, pasted, copied_part, lacks, ext
 use crate::composite::StoredBytes;
 use crate::entries::{ENTRY_LIMIT, Entries};
 use crate::key::Key;
-use crate::obj::Part;
+use crate::obj::{Obj, Part};
 use crate::store::{Composite, Store};
 use press_fault::{Grow, Mem};
 use std::mem;
@@ -131,7 +131,7 @@ fn fresh_entries(target: &Entries, source: &Entries) -> usize
 fn is_fresh(target: &Entries, key: &Key) -> bool
     ensures { result ≡ not (is_some (lookup (same_key key.now) target.now)) }
 {
-    target.look_up(key).is_none()
+    target.look_up_key(key).is_none()
 }
 
 /// Defines the entries of a dictionary in another one, in their order.
@@ -143,7 +143,7 @@ fn define_all(target: &mut Entries, source: &Entries) -> Mem<()>
         let Some((key, value)) = source.at(at) else {
             unreachable!();
         };
-        target.define(*key, *value)?;
+        target.define(key.again(), value.again())?;
     }
     Ok(())
 }
@@ -174,7 +174,7 @@ fn paste_within(c: &mut Composite, start: usize, len: usize, at: usize)
 {
     match c {
         Composite::Text(bytes) => place_within(&mut bytes.bytes, start, len, at),
-        Composite::Array(items) => place_within(&mut items.items, start, len, at),
+        Composite::Array(items) => place_objects_within(&mut items.items, start, len, at),
         Composite::Dict(_) => {}
     }
 }
@@ -190,14 +190,14 @@ fn paste(c: &mut Composite, source: &Composite, start: usize, len: usize, at: us
             place(&mut bytes.bytes, at, from.part(start, len))
         }
         (Composite::Array(items), Composite::Array(from)) => {
-            place(&mut items.items, at, from.part(start, len))
+            place_objects(&mut items.items, at, from.part(start, len))
         }
         _ => {}
     }
 }
 
-/// Puts items at the places of a list from one on, if it has these places.
-fn place<X: Copy>(list: &mut [X], at: usize, items: &[X])
+/// Puts bytes at the places of a list from one on, if it has these places.
+fn place(list: &mut [u8], at: usize, items: &[u8])
     requires { at + length items.now < 2 ^ 64 }
     ensures { list.new ≡ placed list.old at items.now }
 {
@@ -207,8 +207,8 @@ fn place<X: Copy>(list: &mut [X], at: usize, items: &[X])
     }
 }
 
-/// Puts a part of a list at its places from one on, if it has these places.
-fn place_within<X: Copy>(list: &mut [X], start: usize, len: usize, at: usize)
+/// Puts a part of a list of bytes at its places from one on, if it has these places.
+fn place_within(list: &mut [u8], start: usize, len: usize, at: usize)
     requires part { start + len < 2 ^ 63 }
     requires place { at < 2 ^ 62 }
     ensures { list.new ≡ placed list.old at (piece list.old start len) }
@@ -216,5 +216,64 @@ fn place_within<X: Copy>(list: &mut [X], start: usize, len: usize, at: usize)
     let held = list.len();
     if start + len <= held && at + len <= held {
         list.copy_within(start..start + len, at);
+    }
+}
+
+/// Puts objects at the places of a list from one on, if it has these places.
+fn place_objects(list: &mut [Obj], at: usize, items: &[Obj])
+    requires { at + length items.now < 2 ^ 64 }
+    ensures { list.new ≡ placed list.old at items.now }
+{
+    let end = at + items.len();
+    if end <= list.len() {
+        put_objects(list, at, items);
+    }
+}
+
+fn put_objects(list: &mut [Obj], at: usize, items: &[Obj])
+    requires { at + length items.now ≤ length list.old }
+    ensures { list.new ≡ placed list.old at items.now }
+{
+    for i in 0..items.len() {
+        list[at + i] = items[i].again();
+    }
+}
+
+/// Puts a part of a list of objects at its places from one on, if it has these places.
+fn place_objects_within(list: &mut [Obj], start: usize, len: usize, at: usize)
+    requires part { start + len < 2 ^ 63 }
+    requires place { at < 2 ^ 62 }
+    ensures { list.new ≡ placed list.old at (piece list.old start len) }
+{
+    let held = list.len();
+    if start + len <= held && at + len <= held {
+        if at <= start {
+            put_down(list, start, len, at);
+        } else {
+            put_up(list, start, len, at);
+        }
+    }
+}
+
+/// Puts a part of a list at earlier places of it, its first object first.
+fn put_down(list: &mut [Obj], start: usize, len: usize, at: usize)
+    requires part { start + len ≤ length list.old }
+    requires down { at ≤ start }
+    ensures { list.new ≡ placed list.old at (piece list.old start len) }
+{
+    for i in 0..len {
+        list[at + i] = list[start + i].again();
+    }
+}
+
+/// Puts a part of a list at later places of it, its last object first.
+fn put_up(list: &mut [Obj], start: usize, len: usize, at: usize)
+    requires place { at + len ≤ length list.old }
+    requires up { start ≤ at }
+    ensures { list.new ≡ placed list.old at (piece list.old start len) }
+{
+    for i in 0..len {
+        let left = len - 1 - i;
+        list[at + left] = list[start + left].again();
     }
 }

@@ -6,9 +6,11 @@ ghost use Rattle.ps_store.specs.Dicts.{find_key, home_of};
 use crate::entries::Entries;
 use crate::key::Key;
 use crate::obj::Obj;
+use crate::sought::Sought;
 use crate::store::{Composite, Store};
+use crate::symbol::Symbol;
 use arrayvec::ArrayVec;
-use press_fault::{DictStackOverflow, DictStackUnderflow, Mem, Name};
+use press_fault::{DictStackOverflow, DictStackUnderflow, Mem};
 use std::marker::Model;
 
 /// The number of `systemdict`, which holds the operators and can't be written.
@@ -108,21 +110,21 @@ impl Dicts {
     }
 
     /// The value of a key in the topmost dictionary that has it.
-    pub fn find<'a>(&self, store: &'a Store, key: &Key) -> Option<&'a Obj>
+    pub fn find<'a>(&self, store: &'a Store, key: &Sought) -> Option<&'a Obj>
         ensures { option_copied result ≡ find_key store.now self.now key.now }
     {
         find_from_top(&self.items, store, key)
     }
 
     /// The value of a name in the topmost dictionary that has it.
-    pub fn find_name<'a>(&self, store: &'a Store, name: &Name) -> Option<&'a Obj>
+    pub fn find_name<'a>(&self, store: &'a Store, name: &Symbol) -> Option<&'a Obj>
         ensures { option_copied result ≡ find_key store.now self.now (Key.Named name.now) }
     {
-        find_from_top(&self.items, store, &Key::Named(*name))
+        name_from_top(&self.items, store, name)
     }
 
     /// The number of the topmost dictionary that has a key, `None` where none has it.
-    pub fn home(&self, store: &Store, key: &Key) -> Option<u32>
+    pub fn home(&self, store: &Store, key: &Sought) -> Option<u32>
         ensures { result ≡ home_of store.now self.now key.now }
     {
         home_in(&self.items, store, key)
@@ -130,7 +132,7 @@ impl Dicts {
 }
 
 /// The value in the last dictionary of a list that has the key.
-fn find_from_top<'a>(items: &[u32], store: &'a Store, key: &Key) -> Option<&'a Obj>
+fn find_from_top<'a>(items: &[u32], store: &'a Store, key: &Sought) -> Option<&'a Obj>
     ensures { option_copied result ≡ find_key store.now (reverse items.now) key.now }
 {
     let mut left = items;
@@ -143,8 +145,22 @@ fn find_from_top<'a>(items: &[u32], store: &'a Store, key: &Key) -> Option<&'a O
     None
 }
 
+/// The value in the last dictionary of a list that has the name.
+fn name_from_top<'a>(items: &[u32], store: &'a Store, name: &Symbol) -> Option<&'a Obj>
+    ensures { option_copied result ≡ find_key store.now (reverse items.now) (Key.Named name.now) }
+{
+    let mut left = items;
+    while let Some((dict, below)) = left.split_last() {
+        if let Some(value) = store.look_up_name(*dict, name) {
+            return Some(value);
+        }
+        left = below;
+    }
+    None
+}
+
 /// The last dictionary of a list that has the key.
-fn home_in(items: &[u32], store: &Store, key: &Key) -> Option<u32>
+fn home_in(items: &[u32], store: &Store, key: &Sought) -> Option<u32>
     ensures { result ≡ home_of store.now (reverse items.now) key.now }
 {
     let mut left = items;

@@ -38,7 +38,7 @@ impl Store {
             let Some(item) = stack.at(above) else {
                 unreachable!();
             };
-            self.put(span, at, *item);
+            self.put(span, at, item.again());
         }
     }
 

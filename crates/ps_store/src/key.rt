@@ -3,15 +3,15 @@ ghost use Rattle.std.specs.Prelude.{◌≡◌};
 ghost use Rattle.ps_store.specs.Keys.{object_of};
 
 use crate::obj::Obj;
-use press_fault::Name;
+use crate::symbol::Symbol;
 use press_nums::{Fix, Whole};
 use std::hash::{Hash, Hasher};
 
 /// A key of a dictionary. A string is the name of its bytes, and a number keeps its kind
 /// (PostScript Language Reference, third edition, 3.3.9 Dictionary Objects).
-#[derive(Clone, Copy, Debug)]
+#[derive(Debug, Drop)]
 pub enum Key {
-    Named(Name),
+    Named(Symbol),
     Integer(Whole),
     Real(Fix),
     Truth(bool),
@@ -74,12 +74,24 @@ impl Hash for Key {
 }
 
 impl Key {
+    /// The same key once more.
+    pub fn again(&self) -> Key
+        ensures { result ≡ self.now }
+    {
+        match self {
+            Key::Named(name) => Key::Named(name.again()),
+            Key::Integer(n) => Key::Integer(*n),
+            Key::Real(raw) => Key::Real(*raw),
+            Key::Truth(b) => Key::Truth(*b),
+        }
+    }
+
     /// The key as an object. A name is a literal one.
     pub fn object(&self) -> Obj
         ensures { result ≡ object_of self.now }
     {
         match self {
-            Key::Named(name) => Obj::Name(*name, false),
+            Key::Named(name) => Obj::Name(name.again(), false),
             Key::Integer(n) => Obj::Int(*n),
             Key::Real(raw) => Obj::Real(*raw),
             Key::Truth(b) => Obj::Bool(*b),

@@ -1,6 +1,8 @@
 //! Objects.
+ghost use Rattle.std.specs.Prelude.{◌≡◌};
+
 use crate::oper::Oper;
-use press_fault::Name;
+use crate::symbol::Symbol;
 use press_nums::{Fix, Whole};
 use std::marker::Model;
 
@@ -27,15 +29,16 @@ impl Model for Part {
 
 /// An object (PostScript Language Reference, third edition, 3.3 Data Types and Objects). A
 /// string or an array is a part of a composite of the store, a dictionary the number of one.
-/// The flag of a name or an array says that it is executable.
-#[derive(Clone, Copy, Debug, PartialEq, Eq)]
+/// The flag of a name or an array says that it is executable. It has 24 bytes, and is repeated by
+/// `again`, which takes no memory.
+#[derive(Debug, PartialEq, Eq, Drop)]
 pub enum Obj {
     Null,
     Mark,
     Bool(bool),
     Int(Whole),
     Real(Fix),
-    Name(Name, bool),
+    Name(Symbol, bool),
     Text(Part),
     Array(Part, bool),
     Dict(u32),
@@ -52,5 +55,26 @@ impl Default for Obj {
 
     fn default() -> Obj {
         Obj::Null
+    }
+}
+
+impl Obj {
+    /// The same object once more. A string, an array and a dictionary are shared.
+    pub fn again(&self) -> Obj
+        ensures { result ≡ self.now }
+    {
+        match self {
+            Obj::Null => Obj::Null,
+            Obj::Mark => Obj::Mark,
+            Obj::Bool(b) => Obj::Bool(*b),
+            Obj::Int(n) => Obj::Int(*n),
+            Obj::Real(raw) => Obj::Real(*raw),
+            Obj::Name(name, executable) => Obj::Name(name.again(), *executable),
+            Obj::Text(span) => Obj::Text(*span),
+            Obj::Array(span, executable) => Obj::Array(*span, *executable),
+            Obj::Dict(dict) => Obj::Dict(*dict),
+            Obj::Oper(op) => Obj::Oper(*op),
+            Obj::File => Obj::File,
+        }
     }
 }

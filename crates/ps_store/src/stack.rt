@@ -283,7 +283,7 @@ fn repeat_from(items: &mut ArrayVec<Obj, MAX_OPERANDS>, from: usize)
 {
     let end = items.len();
     for at in from..end {
-        let o = items[at];
+        let o = items[at].again();
         items.push(o);
     }
 }

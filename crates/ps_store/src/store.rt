@@ -10,6 +10,7 @@ ghost use Rattle.ps_store.specs.Store.{with_array, with_array_of, element, item,
 ghost use Rattle.ps_store.specs.Store.{bytes_of, objects_of, put_in, put_at, found, has, entries_of, entry_at};
 ghost use Rattle.ps_store.specs.Store.{as_objects, with_dict, defined, is_new_in, is_full_of, with_entry};
 ghost use Rattle.ps_store.specs.KeyOf.{key_of, name_key};
+ghost use Rattle.ps_store.specs.TypeNames.{type_of};
 
 use crate::composite::{Elements, StoredBytes};
 use crate::entries::{ENTRY_LIMIT, Entries};
@@ -17,6 +18,10 @@ use crate::key::{Key, KeyFault};
 use crate::numbers::byte_in;
 use crate::obj::{Obj, Part};
 use crate::oper::Oper;
+use crate::sought::Sought;
+use crate::symbol::Symbol;
+use crate::symbols::Symbols;
+use crate::type_names::TypeNames;
 use press_fault::{Grow, Mem, Name};
 use press_nums::Whole;
 use std::alloc::Global;
@@ -32,12 +37,15 @@ pub enum Composite {
 
 /// The composites that a program made, numbered from 0 (PostScript Language Reference, third
 /// edition, 3.7 Memory Management). None is ever taken away. A byte of a string counts 1 unit,
-/// an element of an array 16, an entry of a dictionary 32.
+/// an element of an array 16, an entry of a dictionary 32. Names are kept beside them, each once, and
+/// count nothing.
 #[derive(Drop)]
 pub struct Store {
     pub(crate) alloc: Global,
     pub(crate) made: Vec<Composite>,
     pub(crate) units: u64,
+    pub(crate) symbols: Symbols,
+    pub(crate) types: TypeNames,
 }
 
 impl Model for Store {
@@ -52,15 +60,19 @@ impl Model for Store {
 }
 
 impl Store {
-    /// A store in which nothing was made.
-    pub fn new(alloc: Global) -> Store
-        ensures { result ≡ record { made = []; units = 0 } }
+    /// A store in which nothing was made, but for the names of the types.
+    pub fn new(alloc: Global) -> Mem<Store>
+        ensures { IfOk result (λ store. store ≡ record { made = []; units = 0 }) }
     {
-        Store {
+        let mut symbols = Symbols::new(alloc);
+        let types = TypeNames::new(alloc, &mut symbols)?;
+        Ok(Store {
             alloc,
             made: Vec::new(alloc),
             units: 0,
-        }
+            symbols,
+            types,
+        })
     }
 
     /// Whether so many more composites and units stay within the limits: 4,294,967,295
@@ -161,9 +173,9 @@ impl Store {
 
     /// Gives a key of a dictionary a value. A key that is there keeps its place and its kind. A
     /// refusal, by a limit or out of memory, leaves the store as it was.
-    pub fn define(&mut self, dict: u32, key: Key, value: Obj) -> Result<(), Grow>
-        ensures ok { OnOk result (defined self.old dict key value ≡ Some self.new) }
-        ensures limit { IsErrOf result Grow.LimitCheck ↔ (defined self.old dict key value ≡ None) }
+    pub fn define(&mut self, dict: u32, key: &Sought, value: Obj) -> Result<(), Grow>
+        ensures ok { OnOk result (defined self.old dict key.now value ≡ Some self.new) }
+        ensures limit { IsErrOf result Grow.LimitCheck ↔ (defined self.old dict key.now value ≡ None) }
         ensures err { OnErr result (self.new ≡ self.old) }
     {
         let id = dict as usize;
@@ -172,9 +184,10 @@ impl Store {
         }
         // The key is looked up beforehand only where a new one would be refused.
         let has_room = !is_full(&self.made[id]) && self.fits(0, 32);
-        if !has_room && is_missing(&self.made[id], &key) {
+        if !has_room && is_missing(&self.made[id], key) {
             return Err(Grow::LimitCheck);
         }
+        let key = self.symbols.key(self.alloc, key)?;
         let is_new = define_in(&mut self.made[id], key, value)?;
         if is_new {
             self.units += 32;
@@ -256,22 +269,72 @@ impl Store {
     }
 
     /// The key that an object is (PostScript Language Reference, third edition, 3.3.9
-    /// Dictionary Objects). A string is the name of its bytes, of which there are at most 127.
-    pub fn key_of(&self, o: &Obj) -> Result<Key, KeyFault>
+    /// Dictionary Objects). A string is the name of its bytes, of which there are at most 127. It
+    /// takes no memory.
+    pub fn key_of(&self, o: &Obj) -> Result<Sought, KeyFault>
         ensures { result ≡ key_of self.now o.now }
     {
         match o {
-            Obj::Name(name, _) => Ok(Key::Named(*name)),
-            Obj::Int(n) => Ok(Key::Integer(*n)),
-            Obj::Real(raw) => Ok(Key::Real(*raw)),
-            Obj::Bool(b) => Ok(Key::Truth(*b)),
-            Obj::Text(span) => key_of_bytes(self.bytes(*span)),
+            Obj::Name(name, _) => Ok(Sought::key(Key::Named(name.again()))),
+            Obj::Int(n) => Ok(Sought::key(Key::Integer(*n))),
+            Obj::Real(raw) => Ok(Sought::key(Key::Real(*raw))),
+            Obj::Bool(b) => Ok(Sought::key(Key::Truth(*b))),
+            Obj::Text(span) => self.key_of_bytes(self.bytes(*span)),
             _ => Err(KeyFault::NotAKey),
         }
     }
 
+    fn key_of_bytes(&self, bytes: &[u8]) -> Result<Sought, KeyFault>
+        ensures { result ≡ name_key bytes.now }
+    {
+        match Name::of(bytes) {
+            Some(name) => Ok(self.named(name)),
+            None => Err(KeyFault::TooLong),
+        }
+    }
+
+    /// The key that a name is. It takes no memory.
+    pub fn named(&self, name: Name) -> Sought
+        ensures { result ≡ Key.Named name }
+    {
+        match self.symbols.find(name.bytes()) {
+            Some(symbol) => Sought::key(Key::Named(symbol)),
+            None => Sought::name(name),
+        }
+    }
+
+    /// A key that a dictionary can hold. Of a name a symbol is made, if it has none yet.
+    pub fn key(&mut self, key: &Sought) -> Mem<Key>
+        ensures ok { IfOk result (λ made. made ≡ key.now) }
+        ensures same { self.new ≡ self.old }
+    {
+        self.symbols.key(self.alloc, key)
+    }
+
+    /// The symbol of a name, made if there is none yet.
+    pub fn symbol(&mut self, name: &Name) -> Mem<Symbol>
+        ensures ok { IfOk result (λ symbol. symbol ≡ name.now) }
+        ensures same { self.new ≡ self.old }
+    {
+        self.symbols.keep(self.alloc, name)
+    }
+
+    /// The symbol of a name that has one already. It takes no memory.
+    pub fn known_symbol(&self, name: &Name) -> Option<Symbol>
+        ensures { IfSome result (λ symbol. symbol ≡ name.now) }
+    {
+        self.symbols.find(name.bytes())
+    }
+
+    /// The name of an object's type. It takes no memory.
+    pub fn type_name(&self, o: &Obj) -> Symbol
+        ensures { result ≡ type_of o.now }
+    {
+        self.types.of(o)
+    }
+
     /// The value of a key in a dictionary.
-    pub fn look_up(&self, dict: u32, key: &Key) -> Option<&Obj>
+    pub fn look_up(&self, dict: u32, key: &Sought) -> Option<&Obj>
         ensures { option_copied result ≡ found self.now dict key.now }
     {
         match self.made.get(dict as usize) {
@@ -282,8 +345,20 @@ impl Store {
         }
     }
 
+    /// The value of a name in a dictionary.
+    pub fn look_up_name(&self, dict: u32, name: &Symbol) -> Option<&Obj>
+        ensures { option_copied result ≡ found self.now dict (Key.Named name.now) }
+    {
+        match self.made.get(dict as usize) {
+            Some(Composite::Dict(entries)) => entries.look_up_name(name),
+            Some(Composite::Text(_)) => None,
+            Some(Composite::Array(_)) => None,
+            None => None,
+        }
+    }
+
     /// Whether a dictionary has a key.
-    pub fn has(&self, dict: u32, key: &Key) -> bool
+    pub fn has(&self, dict: u32, key: &Sought) -> bool
         ensures { result ≡ has self.now dict key.now }
     {
         match self.look_up(dict, key) {
@@ -319,20 +394,11 @@ impl Store {
     }
 }
 
-fn key_of_bytes(bytes: &[u8]) -> Result<Key, KeyFault>
-    ensures { result ≡ name_key bytes.now }
-{
-    match Name::of(bytes) {
-        Some(name) => Ok(Key::Named(name)),
-        None => Err(KeyFault::TooLong),
-    }
-}
-
 fn pair_at(entries: &Entries, at: usize) -> (Obj, Obj)
     ensures { result ≡ as_objects (slice_get entries.now at) }
 {
     match entries.at(at) {
-        Some((key, value)) => (key.object(), *value),
+        Some((key, value)) => (key.object(), value.again()),
         None => (Obj::Null, Obj::Null),
     }
 }
@@ -367,7 +433,7 @@ fn put_byte(bytes: &mut StoredBytes, i: usize, value: &Obj)
 }
 
 /// Whether a dictionary lacks a key.
-fn is_missing(c: &Composite, key: &Key) -> bool
+fn is_missing(c: &Composite, key: &Sought) -> bool
     ensures { result ≡ is_new_in c.now key.now }
 {
     match c {

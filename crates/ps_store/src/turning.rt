@@ -49,11 +49,11 @@ fn settle_cycle(items: &mut [Obj], settled: &mut [bool], k: usize, start: usize)
     if settled[start] {
         return;
     }
-    let first = items[start];
+    let first = items[start].again();
     let mut hole = start;
     let mut next = source(items.len(), k, hole);
     while next != start {
-        items[hole] = items[next];
+        items[hole] = items[next].again();
         settled[hole] = true;
         hole = next;
         next = source(items.len(), k, hole);

@@ -1,6 +1,7 @@
 //! Worked examples of the store and the table of operators that no program can show.
 #![tactic(auto)]
 
+use press_fault::Name;
 use ps_store::{Obj, Oper, Store};
 use std::alloc::Global;
 use std::test::Fail;
@@ -35,7 +36,7 @@ fn numbers_are_places_in_the_table(rt: HostRuntime) {
 
 /// The numbers of a string, a dictionary and an array, made in this order.
 fn numbers(alloc: Global) -> Result<(u32, u32, u32), Fail> {
-    let mut store = Store::new(alloc);
+    let mut store = Store::new(alloc)?;
     let text = store.new_text_of(b"abcd")?;
     let dict = store.new_dict()?;
     let array = store.new_array_of(&[Obj::Mark, Obj::Null])?;
@@ -45,5 +46,24 @@ fn numbers(alloc: Global) -> Result<(u32, u32, u32), Fail> {
 #[test]
 fn composites_have_one_numbering(rt: HostRuntime) -> Result<(), Fail> {
     assert_eq!(rt; numbers(rt.alloc())?, (0, 1, 2));
+    Ok(())
+}
+
+/// Whether a name is known before its symbol is made, and afterwards.
+fn known(alloc: Global, bytes: &[u8]) -> Result<(bool, bool), Fail> {
+    let mut store = Store::new(alloc)?;
+    let Some(name) = Name::of(bytes) else {
+        return Ok((false, false));
+    };
+    let before = store.known_symbol(&name).is_some();
+    store.symbol(&name)?;
+    Ok((before, store.known_symbol(&name).is_some()))
+}
+
+#[test]
+fn a_name_is_known_once_it_has_a_symbol(rt: HostRuntime) -> Result<(), Fail> {
+    assert_eq!(rt; known(rt.alloc(), b"gold")?, (false, true));
+    assert_eq!(rt; known(rt.alloc(), b"")?, (false, true));
+    assert_eq!(rt; known(rt.alloc(), b"integertype")?, (true, true));
     Ok(())
 }

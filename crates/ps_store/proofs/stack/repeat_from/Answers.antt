@@ -7,4 +7,4 @@ loop-at-preserved c =
     let below : c.loop-at.at < length c.args.items.now.items =
     omega (arith, c.loop-at-test.true, c.len-end.ensures.value) in
     repeat_step _ _ _ _ c.args.from c.loop-at.at _ c.loop-at.invariant c.loop-at.auto.at below c.deref.ensures.0
-    c.index-deref-at.is c.push.ensures.items
+    (rw c.again-o.ensures c.index-deref-at.is) c.push.ensures.items
