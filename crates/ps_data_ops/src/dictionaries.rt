@@ -90,7 +90,7 @@ pub(crate) fn def(stack: &mut Stack, store: &mut Store, dicts: &Dicts) -> Result
         return Err(OpFault::Ps(PsName::StackUnderflow));
     };
     let (key, value) = (store.key_of(key), value.again());
-    define(stack, store, 2, dicts.top(), key, value)
+    define(stack, store, 2, dicts.top(), &key, value)
 }
 
 /// Gives a key of a dictionary a value, and drops the top `n` operands. `systemdict` is refused.
@@ -99,13 +99,13 @@ pub(crate) fn define(
     store: &mut Store,
     n: usize,
     dict: u32,
-    key: Result<Sought, KeyFault>,
+    key: &Result<Sought, KeyFault>,
     value: Obj,
 ) -> Result<(), OpFault>
     requires { n ≤ length stack.old }
-    ensures answers { StoreAnswers (define_row store.old dict key value (drop n stack.old))
+    ensures answers { StoreAnswers (define_row store.old dict key.now value (drop n stack.old))
         result stack.old store.old stack.new store.new }
-    ensures refused { TellsRefusal (define_row store.old dict key value (drop n stack.old)) result }
+    ensures refused { TellsRefusal (define_row store.old dict key.now value (drop n stack.old)) result }
 {
     match key {
         Ok(key) => {

@@ -183,5 +183,5 @@ fn put_value(
     ensures refused { TellsRefusal (put_row stack.old store.old) result }
 {
     let key = store.key_of(key);
-    define(stack, store, 3, dict, key, value)
+    define(stack, store, 3, dict, &key, value)
 }

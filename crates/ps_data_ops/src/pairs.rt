@@ -92,7 +92,7 @@ fn entries_of(stack: &Stack, store: &mut Store, len: usize) -> Mem<Option<Entrie
         let Ok(key) = store.key_of(key) else {
             return Ok(None);
         };
-        let key = store.key(key)?;
+        let key = store.key(&key)?;
         entries.define(key, value.again())?;
         left -= 2;
     }

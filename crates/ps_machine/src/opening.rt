@@ -19,7 +19,7 @@ use std::alloc::Global;
 fn define_operator(store: &mut Store, op: Oper) -> Mem<()>
     ensures { OnOk result (store.new ≡ with_operator store.old op) }
 {
-    match store.define(0, Sought::name(command_of(op)), Obj::Oper(op)) {
+    match store.define(0, &Sought::name(command_of(op)), Obj::Oper(op)) {
         Ok(()) => Ok(()),
         Err(Grow::LimitCheck) => Ok(()),
         Err(Grow::NoMemory) => Err(NoMemory),

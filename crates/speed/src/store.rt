@@ -62,7 +62,7 @@ fn defined(store: &mut Store, keys: &[Key]) -> Mem<u32> {
     };
     for key in keys {
         let key = Sought::key(key.again());
-        if store.define(dict, key, Obj::Null).is_err() {
+        if store.define(dict, &key, Obj::Null).is_err() {
             return Err(NoMemory);
         }
     }
