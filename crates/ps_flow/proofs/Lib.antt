@@ -1,4 +1,4 @@
 pub mod VisitLemmas
 pub mod ReachLemmas
 pub mod BindLemmas
-pub mod Contents
+pub mod WholeParts

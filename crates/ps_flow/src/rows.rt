@@ -258,7 +258,7 @@ fn forall_elements(
 /// The elements of an array, or the bytes of a string as integers, in order.
 ///
 /// A part that lies within its composite is copied as a whole, a string's bytes as bytes.
-#[tactic(auto, using(crate::proofs::Contents::bytes_are_elements, crate::proofs::Contents::objects_are_elements))]
+#[tactic(auto, using(crate::proofs::WholeParts::bytes_are_elements, crate::proofs::WholeParts::objects_are_elements))]
 fn contents(alloc: Global, store: &Store, over: Part) -> Mem<Objects>
     ensures { IfOk result (λ left. left ≡ elements store.now over) }
 {
