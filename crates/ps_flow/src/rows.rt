@@ -270,16 +270,26 @@ fn contents(alloc: Global, store: &Store, over: Part) -> Mem<Objects>
     if items.len() == over.len as usize {
         return Ok(Objects::of(copies(alloc, items)?));
     }
-    let items = (0..over.len).map(|at| store.get(over, at)).collect(alloc)?;
-    Ok(Objects::of(items))
+    Ok(Objects::of(read_by_place(alloc, store, over)?))
 }
 
 /// Copies of these objects.
 fn copies(alloc: Global, items: &[Obj]) -> Mem<Vec<Obj>>
     ensures { IfOk result (λ copies. copies.items ≡ items.now) }
 {
-    let copies = items.iter().map(|o| o.again()).collect(alloc)?;
-    Ok(copies)
+    let mut held = Vec::with_capacity(alloc, items.len())?;
+    for at in 0..items.len() {
+        held.push(items[at].again())?;
+    }
+    Ok(held)
+}
+
+/// What stands at each place of a part, in order.
+fn read_by_place(alloc: Global, store: &Store, over: Part) -> Mem<Vec<Obj>>
+    ensures { IfOk result (λ items. items.items ≡ elements store.now over) }
+{
+    let items = (0..over.len).map(|at| store.get(over, at)).collect(alloc)?;
+    Ok(items)
 }
 
 /// Opens the level of a `forall` over a dictionary, in the place of two operands.
