@@ -92,8 +92,8 @@ fn entries_of(stack: &Stack, store: &mut Store, len: usize) -> Mem<Option<Entrie
         let Ok(key) = store.key_of(key) else {
             return Ok(None);
         };
-        let key = store.key(&key)?;
-        entries.define(key, value.again())?;
+        let made = store.key(&key)?;
+        entries.define(made, value.again())?;
         left -= 2;
     }
     Ok(Some(entries))
