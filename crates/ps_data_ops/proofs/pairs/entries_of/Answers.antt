@@ -51,7 +51,9 @@ loop-left-preserved c =
     let named : key_of s c.in-Some.key.now ≡ Ok c.in-Ok.key =
     ap (λ t. key_of t c.in-Some.key.now) (sym c.loop-left.invariant.store) ∙ (sym c.key_of.ensures ∙ c.in-Ok.is) in
     let more : c.define.new.self ≡ insert_entry same_key entries c.in-Ok.key value =
-    c.in_ok-define.ensures.ok ∙ ap (λ made. insert_entry same_key entries made value) c.in_ok-made.ensures.ok in
+    c.in_ok-define.ensures.ok
+    ∙ (ap (λ made. insert_entry same_key entries made c.again.result) c.in_ok-made.ensures.ok
+    ∙ ap (insert_entry same_key entries c.in-Ok.key) c.again.ensures) in
     let long : length c.define.new.self ≡ length (insert_entry same_key entries c.in-Ok.key value) = ap length more in
     record {
       held = omega (arith, c.loop-left.invariant.held);
