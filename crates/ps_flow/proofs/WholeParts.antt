@@ -18,8 +18,7 @@ piece_at : {X : Type 0} (xs : List X) (start len k : ℕ) (d : X) → length (pi
 piece_at xs start len k d long lt =
     (elim (nat_le (start + len) (length xs)) as
     (λ b. length (if b then take len (drop start xs) else []) ≡ len →
-    get_or (if b then take len (drop start xs) else []) k d ≡ get_or xs (start + k) d)
-    [
+    get_or (if b then take len (drop start xs) else []) k d ≡ get_or xs (start + k) d) [
       | true ↦ λ _. get_or-take len (drop start xs) k d lt ∙ get_or-drop start xs k d
       | false ↦ λ none. absurd (omega (arith, lt, none))
     ]) long
