@@ -1,3 +1,4 @@
 pub mod InTurn
 pub mod Within
 pub mod Putting
+pub mod Defining

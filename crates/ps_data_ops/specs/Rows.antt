@@ -92,7 +92,7 @@ data_row Currentfile w = within (with_operands w) (pushed File w.operands)
 data_row Readstring w = within (with_reader w) (readstring_row w.operands w.store w.file)
 data_row Readhexstring w = within (with_reader w) (readhexstring_row w.operands w.store w.file)
 
--- the operators that may run out of memory: they make a composite, give a key a value, or read bytes
+-- the operators that may run out of memory: they make a composite or a name, give a key a value, or read bytes
 abbrev pub takes_memory : DataOp → Bool
 takes_memory Array = true
 takes_memory String = true
@@ -101,6 +101,7 @@ takes_memory CloseArray = true
 takes_memory CloseDict = true
 takes_memory Put = true
 takes_memory Def = true
+takes_memory Cvn = true
 takes_memory Readstring = true
 takes_memory Readhexstring = true
 takes_memory op = false

@@ -1,12 +1,12 @@
 -- Operators on single objects: their types and marks, and the constants
 -- (PostScript Language Reference, third edition, 3.3 Data Types and Objects, and 8.2).
-use Rattle.std.specs.Prelude.{ℕ, Bool, true, false, List, [], ◌∷◌, codes, length, nat_le, if◌then◌else◌}
+use Rattle.std.specs.Prelude.{Bool, true, false, List, [], ◌∷◌, length, nat_le, if◌then◌else◌}
 use Rattle.press_fault.specs.declared.names.PsName.TheVariants.{StackUnderflow, TypeCheck, LimitCheck}
 use Rattle.ps_store.specs.declared.obj.Obj.{Obj}
-use Rattle.ps_store.specs.declared.obj.Obj.TheVariants.{Null, Mark, Bool as Boolean, Int, Real, Name, Text, Array, Dict}
-use Rattle.ps_store.specs.declared.obj.Obj.TheVariants.{Oper as Operator, File}
+use Rattle.ps_store.specs.declared.obj.Obj.TheVariants.{Bool as Boolean, Name, Text, Array, Oper as Operator}
 use Rattle.ps_store.specs.Outcome.{Outcome, Goes, Refuses}
 use Rattle.ps_store.specs.Store.{StoreValue, bytes_of}
+use Rattle.ps_store.specs.TypeNames.{type_of}
 
 -- the operands with another object in place of the top one; without one, stackunderflow
 abbrev pub changed : (Obj → Obj) → List Obj → Outcome (List Obj)
@@ -31,20 +31,6 @@ is_executable (Name bytes x) = x
 is_executable (Array p x) = x
 is_executable (Operator op) = true
 is_executable o = false
-
--- the name of an object's type
-abbrev pub type_of : Obj → List ℕ
-type_of (Int n) = codes "integertype"
-type_of (Real n) = codes "realtype"
-type_of (Boolean b) = codes "booleantype"
-type_of (Name bytes x) = codes "nametype"
-type_of (Text p) = codes "stringtype"
-type_of (Array p x) = codes "arraytype"
-type_of (Dict d) = codes "dicttype"
-type_of (Operator op) = codes "operatortype"
-type_of Mark = codes "marktype"
-type_of Null = codes "nulltype"
-type_of File = codes "filetype"
 
 -- an object's mark as an object
 abbrev pub mark_of : Obj → Obj

@@ -8,7 +8,7 @@ ghost use Rattle.ps_store.specs.Calls.{StoreAnswers};
 use crate::elements::give;
 use crate::values::push;
 use press_fault::PsName;
-use ps_store::{Dicts, Key, KeyFault, MAX_OPERANDS, Obj, OpFault, SYSTEMDICT, Stack, Store};
+use ps_store::{Dicts, KeyFault, MAX_OPERANDS, Obj, OpFault, SYSTEMDICT, Sought, Stack, Store};
 
 /// `load`: the value in the topmost dictionary that has the key.
 pub(crate) fn load(stack: &mut Stack, store: &Store, dicts: &Dicts) -> Result<(), OpFault>
@@ -89,8 +89,8 @@ pub(crate) fn def(stack: &mut Stack, store: &mut Store, dicts: &Dicts) -> Result
     let Some((value, key)) = stack.top_two() else {
         return Err(OpFault::Ps(PsName::StackUnderflow));
     };
-    let (key, value) = (store.key_of(key), *value);
-    define(stack, store, 2, dicts.top(), key, value)
+    let (key, value) = (store.key_of(key), value.again());
+    define(stack, store, 2, dicts.top(), &key, value)
 }
 
 /// Gives a key of a dictionary a value, and drops the top `n` operands. `systemdict` is refused.
@@ -99,13 +99,13 @@ pub(crate) fn define(
     store: &mut Store,
     n: usize,
     dict: u32,
-    key: Result<Key, KeyFault>,
+    key: &Result<Sought, KeyFault>,
     value: Obj,
 ) -> Result<(), OpFault>
     requires { n ≤ length stack.old }
-    ensures answers { StoreAnswers (define_row store.old dict key value (drop n stack.old))
+    ensures answers { StoreAnswers (define_row store.old dict key.now value (drop n stack.old))
         result stack.old store.old stack.new store.new }
-    ensures refused { TellsRefusal (define_row store.old dict key value (drop n stack.old)) result }
+    ensures refused { TellsRefusal (define_row store.old dict key.now value (drop n stack.old)) result }
 {
     match key {
         Ok(key) => {

@@ -41,7 +41,7 @@ pub(crate) fn give(stack: &mut Stack, n: usize, value: Option<&Obj>) -> Result<(
     let Some(value) = value else {
         return Err(OpFault::Ps(PsName::Undefined));
     };
-    stack.replace(n, *value);
+    stack.replace(n, value.again());
     Ok(())
 }
 
@@ -98,7 +98,7 @@ pub(crate) fn put(stack: &mut Stack, store: &mut Store) -> Result<(), OpFault>
     let Some((value, place, whole)) = stack.top_three() else {
         return Err(OpFault::Ps(PsName::StackUnderflow));
     };
-    let (value, place) = (*value, *place);
+    let (value, place) = (value.again(), place.again());
     match whole {
         Obj::Array(span, mark) => {
             let (span, mark) = (*span, *mark);
@@ -163,7 +163,7 @@ fn put_byte(
     if place_in(*byte, 256).is_none() {
         return Err(OpFault::Ps(PsName::RangeCheck));
     }
-    store.put(span, at, *value);
+    store.put(span, at, value.again());
     stack.drop_top(3);
     Ok(())
 }
@@ -183,5 +183,5 @@ fn put_value(
     ensures refused { TellsRefusal (put_row stack.old store.old) result }
 {
     let key = store.key_of(key);
-    define(stack, store, 3, dict, key, value)
+    define(stack, store, 3, dict, &key, value)
 }

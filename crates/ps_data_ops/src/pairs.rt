@@ -5,7 +5,7 @@ ghost use Rattle.ps_data_ops.specs.Dictionaries.{entered};
 ghost use Rattle.ps_store.specs.Calls.{StoreAnswers};
 
 use press_fault::{Mem, PsName};
-use ps_store::{Entries, Key, KeyFault, Obj, OpFault, Stack, Store};
+use ps_store::{Entries, KeyFault, Obj, OpFault, Sought, Stack, Store};
 
 /// `>>`: a new dictionary of the pairs above the topmost mark.
 pub(crate) fn close_dict(stack: &mut Stack, store: &mut Store) -> Result<(), OpFault>
@@ -61,7 +61,7 @@ fn lacks_key(stack: &Stack, store: &Store, len: usize) -> bool
     false
 }
 
-fn is_no_key(key: &Result<Key, KeyFault>) -> bool
+fn is_no_key(key: &Result<Sought, KeyFault>) -> bool
     ensures { result ≡ is_no_key key.now }
 {
     match key {
@@ -74,9 +74,10 @@ fn is_no_key(key: &Result<Key, KeyFault>) -> bool
 /// The entries of the top `len` operands, keys and values in turn; `None` exactly where a key is a
 /// string of over 127 bytes.
 #[tactic(auto, unfolding(crate::specs::Dictionaries::entered))]
-fn entries_of(stack: &Stack, store: &Store, len: usize) -> Mem<Option<Entries>>
+fn entries_of(stack: &Stack, store: &mut Store, len: usize) -> Mem<Option<Entries>>
     requires { len ≤ length stack.now }
-    ensures { IfOk result (λ entries. entries ≡ entered store.now [] (reverse (take len stack.now))) }
+    ensures entries { IfOk result (λ entries. entries ≡ entered store.old [] (reverse (take len stack.now))) }
+    ensures store { store.new ≡ store.old }
 {
     let _held = stack.len();
     let mut entries = store.new_entries();
@@ -91,7 +92,8 @@ fn entries_of(stack: &Stack, store: &Store, len: usize) -> Mem<Option<Entries>>
         let Ok(key) = store.key_of(key) else {
             return Ok(None);
         };
-        entries.define(key, *value)?;
+        let made = store.key(&key)?;
+        entries.define(made, value.again())?;
         left -= 2;
     }
     Ok(Some(entries))

@@ -19,9 +19,9 @@ use ps_store::{DataOp, Dicts, Obj, OpFault, SYSTEMDICT, Stack, Store, USERDICT};
 /// Does a data operator, exactly as its row says (PostScript Language Reference, third edition,
 /// 8.2 Operator Details). A refusal by an error of the language leaves the operands, the store,
 /// the dictionary stack and the place in the program as they were; after out of memory nothing
-/// is said of them. Out of memory comes only of an operator that makes a composite, gives a key a
-/// value or reads, and never in place of a refusal, but that `>>` puts its entries together before
-/// it finds its limit.
+/// is said of them. Out of memory comes only of an operator that makes a composite or a name, gives a
+/// key a value or reads, and never in place of a refusal, but that `>>` puts its entries together
+/// before it finds its limit.
 #[tactic(auto, using(crate::proofs::Within::answers_within, crate::proofs::Within::told, crate::proofs::Within::told_within), unfolding(crate::specs::Rows::data_row))]
 pub fn run_data(
     op: DataOp,
@@ -67,7 +67,7 @@ pub fn run_data(
         DataOp::Cvx => cvx(stack),
         DataOp::Cvlit => cvlit(stack),
         DataOp::Xcheck => xcheck(stack),
-        DataOp::Type => type_(stack),
+        DataOp::Type => type_(stack, store),
         DataOp::Currentfile => push(stack, Obj::File),
         DataOp::Readstring => readstring(stack, store, file),
         DataOp::Readhexstring => readhexstring(stack, store, file),

@@ -1,8 +1,7 @@
 //! Operators on single objects: their types and marks, and the constants.
-ghost use Rattle.std.specs.Prelude.{◌≡◌, ◌≢◌, ◌≤◌, length, Err};
-ghost use Rattle.ps_store.specs.Outcome.{Answers, pushed};
-ghost use Rattle.ps_data_ops.specs.Values.{changed, executable, literal, is_executable, mark_of, type_name, type_of};
-ghost use Rattle.ps_data_ops.specs.Values.{cvn_row};
+ghost use Rattle.std.specs.Prelude.{◌≡◌, ◌≢◌, Err};
+ghost use Rattle.ps_store.specs.Outcome.{Answers, TellsRefusal, pushed};
+ghost use Rattle.ps_data_ops.specs.Values.{changed, executable, literal, is_executable, mark_of, type_name, cvn_row};
 
 use press_fault::{Name, PsName};
 use ps_store::{Obj, OpFault, Stack, Store};
@@ -56,51 +55,23 @@ pub(crate) fn xcheck(stack: &mut Stack) -> Result<(), OpFault>
 }
 
 /// `type`: the name of the top operand's type, an executable one.
-pub(crate) fn type_(stack: &mut Stack) -> Result<(), OpFault>
+pub(crate) fn type_(stack: &mut Stack, store: &Store) -> Result<(), OpFault>
     ensures answers { Answers (changed type_name stack.old) result stack.old stack.new }
     ensures never { result ≢ Err OpFault.NoMemory }
 {
     let Some(top) = stack.top() else {
         return Err(OpFault::Ps(PsName::StackUnderflow));
     };
-    let name = name_of_type(top);
+    let name = store.type_name(top);
     stack.replace(1, Obj::Name(name, true));
     Ok(())
 }
 
-fn name_of_type(o: &Obj) -> Name
-    ensures { result ≡ type_of o.now }
-{
-    let Some(name) = Name::of(type_text(o).as_bytes()) else {
-        unreachable!();
-    };
-    name
-}
-
-/// The name of an object's type.
-fn type_text(o: &Obj) -> &'static str
-    ensures value { result.now ≡ type_of o.now }
-    ensures short { length result.now ≤ 127 }
-{
-    match o {
-        Obj::Int(_) => "integertype",
-        Obj::Real(_) => "realtype",
-        Obj::Bool(_) => "booleantype",
-        Obj::Name(_, _) => "nametype",
-        Obj::Text(_) => "stringtype",
-        Obj::Array(_, _) => "arraytype",
-        Obj::Dict(_) => "dicttype",
-        Obj::Oper(_) => "operatortype",
-        Obj::Mark => "marktype",
-        Obj::Null => "nulltype",
-        Obj::File => "filetype",
-    }
-}
-
 /// `cvn`: the literal name of a string's bytes.
-pub(crate) fn cvn(stack: &mut Stack, store: &Store) -> Result<(), OpFault>
-    ensures answers { Answers (cvn_row stack.old store.now) result stack.old stack.new }
-    ensures never { result ≢ Err OpFault.NoMemory }
+pub(crate) fn cvn(stack: &mut Stack, store: &mut Store) -> Result<(), OpFault>
+    ensures answers { Answers (cvn_row stack.old store.old) result stack.old stack.new }
+    ensures store { store.new ≡ store.old }
+    ensures refused { TellsRefusal (cvn_row stack.old store.old) result }
 {
     let Some(top) = stack.top() else {
         return Err(OpFault::Ps(PsName::StackUnderflow));
@@ -110,6 +81,7 @@ pub(crate) fn cvn(stack: &mut Stack, store: &Store) -> Result<(), OpFault>
     };
     match Name::of(store.bytes(*span)) {
         Some(name) => {
+            let name = store.symbol(&name)?;
             stack.replace(1, Obj::Name(name, false));
             Ok(())
         }
@@ -121,9 +93,9 @@ fn executable(o: &Obj) -> Obj
     ensures { result ≡ executable o.now }
 {
     match o {
-        Obj::Name(name, _) => Obj::Name(*name, true),
+        Obj::Name(name, _) => Obj::Name(name.again(), true),
         Obj::Array(span, _) => Obj::Array(*span, true),
-        _ => *o,
+        _ => o.again(),
     }
 }
 
@@ -131,9 +103,9 @@ fn literal(o: &Obj) -> Obj
     ensures { result ≡ literal o.now }
 {
     match o {
-        Obj::Name(name, _) => Obj::Name(*name, false),
+        Obj::Name(name, _) => Obj::Name(name.again(), false),
         Obj::Array(span, _) => Obj::Array(*span, false),
-        _ => *o,
+        _ => o.again(),
     }
 }
 

@@ -1,3 +1,4 @@
 pub mod VisitLemmas
 pub mod ReachLemmas
 pub mod BindLemmas
+pub mod WholeParts

@@ -7,7 +7,7 @@ ghost use Rattle.ps_flow.specs.Code.BindSteps.{replaced, bound_at, bound_from, b
 
 use crate::visits::{Visits, reached};
 use press_fault::Mem;
-use ps_store::{Dicts, Key, Obj, Oper, Part, Store};
+use ps_store::{Dicts, Obj, Oper, Part, Store};
 use std::alloc::Global;
 
 /// Replaces the executable names whose value is an operator, in a procedure and in all that are reached through
@@ -62,7 +62,7 @@ fn operator_named(store: &Store, dicts: &Dicts, o: &Obj) -> Option<Oper>
     ensures { result ≡ operator_named dicts.now store.now o.now }
 {
     match o {
-        Obj::Name(name, true) => match dicts.find(store, &Key::Named(*name)) {
+        Obj::Name(name, true) => match dicts.find_name(store, name) {
             Some(value) => as_operator(value),
             None => None,
         },

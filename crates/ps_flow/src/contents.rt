@@ -1,24 +1,34 @@
 //! What a `forall` goes over: the contents at its start.
 ghost use Rattle.std.specs.Prelude.{◌≡◌, [], ◌∷◌, MatchOption};
+ghost use Rattle.std.specs.Vec.Iter.{into_iter_items};
+ghost use Rattle.ps_store.specs.Gathering.{integers};
 
+use press_nums::Whole;
 use ps_store::Obj;
 use std::marker::Model;
 use std::vec::IntoIter;
 
-/// The elements or bytes that a `forall` has left. Contracts see them as a list.
+/// What is left of an array as objects, and of a string as bytes.
+#[derive(Drop)]
+enum Left {
+    Elements(IntoIter<Obj>),
+    Bytes(IntoIter<u8>),
+}
+
+/// The elements or bytes that a `forall` has left. Contracts see them as a list of objects, a byte as an integer.
 #[derive(Drop)]
 pub struct Objects {
-    items: IntoIter<Obj>,
+    left: Left,
 }
 
 impl Model for Objects {
     ghost use Rattle.std.specs.Prelude.{List};
-    ghost use Rattle.std.specs.Vec.Iter.{into_iter_items};
     ghost use Rattle.ps_store.specs.declared.obj.Obj.{Obj};
+    ghost use Rattle.ps_flow.specs.Code.Contents.{objects_of_left};
 
     ghost Value = { List Obj };
 
-    ghost view = { λ t. into_iter_items t.items };
+    ghost view = { λ t. objects_of_left t.left };
 }
 
 impl Objects {
@@ -26,14 +36,36 @@ impl Objects {
         ensures { result ≡ items.items }
     {
         Objects {
-            items: items.into_iter(),
+            left: Left::Elements(items.into_iter()),
+        }
+    }
+
+    pub(crate) fn of_bytes(bytes: Vec<u8>) -> Objects
+        ensures { result ≡ integers bytes.items }
+    {
+        Objects {
+            left: Left::Bytes(bytes.into_iter()),
         }
     }
 
     pub(crate) fn next(&mut self) -> Option<Obj>
         ensures { MatchOption result ((self.old ≡ []) × (self.new ≡ [])) (λ o. self.old ≡ o ∷ self.new) }
     {
-        self.items.next()
+        match &mut self.left {
+            Left::Elements(items) => items.next(),
+            Left::Bytes(bytes) => next_integer(bytes),
+        }
+    }
+}
+
+/// The next byte as an integer.
+fn next_integer(bytes: &mut IntoIter<u8>) -> Option<Obj>
+    ensures { MatchOption result ((into_iter_items bytes.old ≡ []) × (into_iter_items bytes.new ≡ []))
+        (λ o. integers (into_iter_items bytes.old) ≡ o ∷ integers (into_iter_items bytes.new)) }
+{
+    match bytes.next() {
+        Some(byte) => Some(Obj::Int(Whole::of(i32::from(byte)))),
+        None => None,
     }
 }
 

@@ -6,7 +6,7 @@ use press_fault::StackOverflow;
 use ps_store::{Obj, Stack};
 
 /// What a turn of a loop pushes.
-#[derive(Clone, Copy, Debug, PartialEq, Eq)]
+#[derive(Debug, PartialEq, Eq, Drop)]
 pub enum Pushes {
     Nothing,
     /// A value of a `for`, or an element or byte of a `forall`.
@@ -27,10 +27,10 @@ impl Pushes {
         }
         match self {
             Pushes::Nothing => Ok(()),
-            Pushes::One(o) => stack.push(*o),
+            Pushes::One(o) => stack.push(o.again()),
             Pushes::Two(key, value) => {
-                stack.push(*key)?;
-                stack.push(*value)
+                stack.push(key.again())?;
+                stack.push(value.again())
             }
         }
     }

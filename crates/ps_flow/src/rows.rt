@@ -77,7 +77,7 @@ fn exec(stack: &mut Stack, flow: &mut Flow) -> Then
     let Some(top) = stack.top() else {
         return Err(OpFault::Ps(PsName::StackUnderflow));
     };
-    let top = *top;
+    let top = top.again();
     match &top {
         Obj::Array(p, true) => open(stack, flow, 1, Level::Procedure(*p), None),
         _ => {
@@ -250,14 +250,42 @@ fn forall_elements(
     if flow.is_full() {
         return Err(OpFault::Ps(PsName::ExecStackOverflow));
     }
-    let items = contents(flow.alloc(), store, over)?;
+    let left = contents(flow.alloc(), store, over)?;
     let rest = nothing_of(body);
-    let left = Objects::of(items);
     open(stack, flow, 2, Level::Forall { left, body, rest }, None)
 }
 
 /// The elements of an array, or the bytes of a string as integers, in order.
-fn contents(alloc: Global, store: &Store, over: Part) -> Mem<Vec<Obj>>
+///
+/// A part that lies within its composite is copied as a whole, a string's bytes as bytes.
+#[tactic(auto, using(crate::proofs::WholeParts::bytes_are_elements, crate::proofs::WholeParts::objects_are_elements))]
+fn contents(alloc: Global, store: &Store, over: Part) -> Mem<Objects>
+    ensures { IfOk result (λ left. left ≡ elements store.now over) }
+{
+    let bytes = store.bytes(over);
+    if bytes.len() == over.len as usize {
+        return Ok(Objects::of_bytes(Vec::from_slice(alloc, bytes)?));
+    }
+    let items = store.objects(over);
+    if items.len() == over.len as usize {
+        return Ok(Objects::of(copies(alloc, items)?));
+    }
+    Ok(Objects::of(read_by_place(alloc, store, over)?))
+}
+
+/// Copies of these objects.
+fn copies(alloc: Global, items: &[Obj]) -> Mem<Vec<Obj>>
+    ensures { IfOk result (λ copies. copies.items ≡ items.now) }
+{
+    let mut held = Vec::with_capacity(alloc, items.len())?;
+    for at in 0..items.len() {
+        held.push(items[at].again())?;
+    }
+    Ok(held)
+}
+
+/// What stands at each place of a part, in order.
+fn read_by_place(alloc: Global, store: &Store, over: Part) -> Mem<Vec<Obj>>
     ensures { IfOk result (λ items. items.items ≡ elements store.now over) }
 {
     let items = (0..over.len).map(|at| store.get(over, at)).collect(alloc)?;
@@ -330,7 +358,7 @@ fn stopped(stack: &mut Stack, flow: &mut Flow) -> Then
     let Some(top) = stack.top() else {
         return Err(OpFault::Ps(PsName::StackUnderflow));
     };
-    let top = *top;
+    let top = top.again();
     match &top {
         Obj::Array(p, true) => open(stack, flow, 1, Level::Stopped(*p), None),
         _ => {

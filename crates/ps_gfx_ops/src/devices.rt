@@ -1,5 +1,6 @@
 //! `setpagedevice`: pages of another size.
 ghost use Rattle.std.specs.Prelude.{◌≡◌, ◌≢◌, ◌≤◌, Err, IfOk, OnOk, length, codes};
+ghost use Rattle.ps_store.specs.declared.key.Key.TheVariants.{Named};
 ghost use Rattle.gfx_state.specs.Graphics.{PageSize};
 ghost use Rattle.gfx_state.specs.Keeping.{IsPageSize};
 ghost use Rattle.ps_gfx_ops.specs.Devices.{side_of, page_or_configuration, dots_of_sides, sides_of, size_in, one_size};
@@ -12,7 +13,7 @@ use geo_matrix::RealPoint;
 use gfx_state::Gfx;
 use press_fault::{Name, PsName};
 use press_nums::{Fix, Wide};
-use ps_store::{Key, Obj, OpFault, Stack, Store};
+use ps_store::{Obj, OpFault, Sought, Stack, Store};
 
 /// The size of a page in dots.
 #[derive(Clone, Copy, Debug, PartialEq, Eq)]
@@ -46,18 +47,18 @@ fn one_size(gfx: &Gfx, stack: &Stack, store: &Store) -> Result<PageDots, PsName>
         return Err(PsName::TypeCheck);
     };
     let (width, height, res) = gfx.size();
-    match store.look_up(*dict, &page_size_key()) {
+    match store.look_up(*dict, &page_size_key(store)) {
         Some(o) => size_in(res, store, o),
         None => Ok(PageDots { width, height }),
     }
 }
 
 /// The key of a page's size.
-fn page_size_key() -> Key
-    ensures { result ≡ Key.Named (codes "PageSize") }
+fn page_size_key(store: &Store) -> Sought
+    ensures { result ≡ Named (codes "PageSize") }
 {
     match Name::of(b"PageSize") {
-        Some(name) => Key::Named(name),
+        Some(name) => store.named(name),
         None => unreachable!(),
     }
 }

@@ -1,17 +1,11 @@
--- One step of a run, and a name that leads to an operator.
-use Rattle.std.proofs.Common.{◌≡◌, ℕ, zero, suc, ◌-◌, ◌<◌, List, Some, true, arith, refl, sym}
+-- One step of a run.
+use Rattle.std.proofs.Common.{◌≡◌, ℕ, zero, suc, ◌-◌, ◌<◌, arith, refl, sym}
 use Rattle.page_model.specs.Page.{PageValue}
-use Rattle.ps_store.specs.declared.obj.Obj.{Obj}
-use Rattle.ps_store.specs.declared.obj.Obj.TheVariants.{Name, Oper as Operator}
-use Rattle.ps_store.specs.declared.oper.Oper.{Oper}
-use Rattle.ps_store.specs.declared.key.Key.TheVariants.{Named}
-use Rattle.ps_store.specs.Dicts.{find_key}
 use Rattle.gfx_state.specs.Graphics.{page_of}
 use Rattle.ps_machine.specs.State.{BodyValue}
 use Rattle.ps_machine.specs.Errors.{Goes, Shows}
-use Rattle.ps_machine.specs.Steps.{execute, execute_value, operate, shown}
+use Rattle.ps_machine.specs.Steps.{shown}
 use Rattle.ps_machine.specs.Reading.{step}
-use Rattle.ps_machine.specs.Memory.{takes_memory, object_takes_memory}
 use Rattle.ps_machine.specs.Meaning.{Meaning, after_page, run}
 
 -- a step that shows a page: the page comes, and then what the rest means
@@ -29,14 +23,3 @@ pub a_step_goes : (n : ℕ) (s t : BodyValue) (whole : Meaning) → 0 < n → ru
 unfolding run
 a_step_goes zero s t whole h w e = absurd (omega (arith, h))
 a_step_goes (suc n) s t whole h w e = let k : suc n - 1 ≡ n = omega arith in rw (sym w, e, k) refl
-
--- an executable name whose value is an operator does that operator's row
-pub executed : (o : Obj) (name : List ℕ) (op : Oper) (s : BodyValue) → o ≡ Name name true →
-    find_key s.store s.dicts (Named name) ≡ Some (Operator op) → execute o s ≡ operate op s
-unfolding execute execute_value
-executed o name op s e f = rw (e, f) refl
-
--- and takes memory where that operator does
-pub executed_memory : (o : Obj) (name : List ℕ) (op : Oper) (s : BodyValue) → o ≡ Name name true →
-    find_key s.store s.dicts (Named name) ≡ Some (Operator op) → object_takes_memory o s ≡ takes_memory op
-executed_memory o name op s e f = rw (e, f) refl

@@ -13,7 +13,7 @@ ghost use Rattle.ps_flow.specs.Rows.{flow_row};
 ghost use Rattle.ps_gfx_ops.specs.Rows.{gfx_row, row_before_memory};
 ghost use Rattle.ps_machine.specs.Memory.{takes_memory, value_takes_memory, object_takes_memory};
 ghost use Rattle.ps_machine.specs.State.{BodyValue as Snapshot, opening};
-ghost use Rattle.ps_machine.specs.Errors.{failed, caught, pushes, counted, Ends};
+ghost use Rattle.ps_machine.specs.Errors.{failed, caught, pushes, counted, Ends, Goes};
 ghost use Rattle.ps_machine.specs.Steps.{execute, execute_value, operate, operate_flow, after_stack, after_data};
 ghost use Rattle.ps_machine.specs.Steps.{work_of, after_gfx, after_flow, after_stop, call, turned, shown};
 ghost use Rattle.ps_machine.specs.Reading.{step, go_on};
@@ -27,14 +27,13 @@ use crate::unclosed::Unclosed;
 use gfx_state::Gfx;
 use page_model::Page;
 use press_fault::{Mem, Name, NoMemory, PsName};
-use press_nums::Whole;
 use ps_data_ops::run_data;
 use ps_flow::{Flow, Level, NextObj, Pushes, run_flow};
 use ps_gfx_ops::run_gfx;
 use ps_scan::Scanner;
 use ps_stack_ops::run_stack;
 use ps_store::{
-    DataOp, Dicts, FlowOp, GfxOp, Obj, OpFault, Oper, PageOp, Part, Stack, StackOp, Store,
+    DataOp, Dicts, FlowOp, GfxOp, Obj, OpFault, Oper, PageOp, Part, Stack, StackOp, Store, Symbol,
 };
 use std::alloc::Global;
 use std::marker::Model;
@@ -101,12 +100,8 @@ impl Body {
         requires { IsSome self.old.at_once }
         ensures { IfOk result (λ turn. step self.old ≡ step_of turn self.new end.new) }
     {
-        match &self.at_once {
-            Some(o) => {
-                let o = *o;
-                self.at_once = None;
-                self.execute(end, &o)
-            }
+        match self.at_once.take() {
+            Some(o) => self.execute(end, o),
             None => unreachable!(),
         }
     }
@@ -154,14 +149,14 @@ impl Body {
     /// Executes an object that isn't counted.
     #[inline(never)]
     #[tactic(auto, unfolding(crate::specs::Steps::execute))]
-    pub(crate) fn execute(&mut self, end: &mut End, o: &Obj) -> Mem<Turn>
-        ensures memory { OnErr result (object_takes_memory o.now self.old ≡ true) }
-        ensures done { IfOk result (λ turn. execute o.now self.old ≡ step_of turn self.new end.new) }
+    pub(crate) fn execute(&mut self, end: &mut End, o: Obj) -> Mem<Turn>
+        ensures memory { OnErr result (object_takes_memory o self.old ≡ true) }
+        ensures done { IfOk result (λ turn. execute o self.old ≡ step_of turn self.new end.new) }
     {
         match o {
             Obj::Name(name, true) => self.execute_name(end, name),
-            Obj::Oper(op) => self.operate(end, *op),
-            _ => Ok(self.push(end, b"push", *o)),
+            Obj::Oper(op) => self.operate(end, op),
+            o => Ok(self.push_object(end, o)),
         }
     }
 
@@ -177,22 +172,20 @@ impl Body {
                 let op = *op;
                 self.operate(end, op)
             }
-            Some(Obj::Name(name, true)) => match self.dicts.find_name(&self.store, name) {
-                Some(Obj::Oper(op)) => {
-                    let op = *op;
-                    self.operate_named(end, place, op)
-                }
-                _ => self.execute_copy(end, place),
-            },
-            Some(Obj::Int(n)) => {
-                let n = *n;
-                Ok(self.push_int(end, n))
+            Some(Obj::Name(name, true)) => {
+                let name = name.again();
+                self.execute_name(end, name)
             }
-            _ => self.execute_copy(end, place),
+            Some(o) => {
+                let o = o.again();
+                Ok(self.push_object(end, o))
+            }
+            None => self.execute_copy(end, place),
         }
     }
 
     /// Executes a copy of what stands at a place of the store.
+    #[cold]
     #[inline(never)]
     fn execute_copy(&mut self, end: &mut End, place: Part) -> Mem<Turn>
         ensures memory { OnErr result (object_takes_memory (element self.old.store place 0) self.old ≡ true) }
@@ -200,26 +193,14 @@ impl Body {
             (λ turn. execute (element self.old.store place 0) self.old ≡ step_of turn self.new end.new) }
     {
         let o = self.store.get(place, 0);
-        self.execute(end, &o)
+        self.execute(end, o)
     }
 
-    /// Does the operator that a name at a place of the store leads to.
-    fn operate_named(&mut self, end: &mut End, place: Part, op: Oper) -> Mem<Turn>
-        requires row { execute (element self.old.store place 0) self.old ≡ operate op self.old }
-        requires memory { object_takes_memory (element self.old.store place 0) self.old ≡ takes_memory op }
-        ensures memory { OnErr result (object_takes_memory (element self.old.store place 0) self.old ≡ true) }
-        ensures done { IfOk result
-            (λ turn. execute (element self.old.store place 0) self.old ≡ step_of turn self.new end.new) }
+    /// Pushes an object that was executed.
+    fn push_object(&mut self, end: &mut End, o: Obj) -> Turn
+        ensures { pushes (codes "push") o self.old ≡ step_of result self.new end.new }
     {
-        self.operate(end, op)
-    }
-
-    /// Pushes an integer.
-    #[inline(never)]
-    fn push_int(&mut self, end: &mut End, n: Whole) -> Turn
-        ensures { pushes (codes "push") (Obj.Int n) self.old ≡ step_of result self.new end.new }
-    {
-        match self.stack.push(Obj::Int(n)) {
+        match self.stack.push(o) {
             Ok(()) => Turn::Went,
             Err(_) => self.overflow(end),
         }
@@ -234,48 +215,76 @@ impl Body {
         self.fail(end, PsName::StackOverflow, named(b"push"))
     }
 
-    fn execute_name(&mut self, end: &mut End, name: &Name) -> Mem<Turn>
-        ensures memory { OnErr result (value_takes_memory (find_key self.old.store self.old.dicts (Named name.now))
+    /// Executes the value of a name where it stands, looked up once.
+    #[tactic(auto, unfolding(crate::specs::Steps::execute_value))]
+    fn execute_name(&mut self, end: &mut End, name: Symbol) -> Mem<Turn>
+        ensures memory { OnErr result (value_takes_memory (find_key self.old.store self.old.dicts (Named name))
             ≡ true) }
         ensures value { IfOk result (λ turn.
-            execute_value name.now (find_key self.old.store self.old.dicts (Named name.now)) self.old
+            execute_value name (find_key self.old.store self.old.dicts (Named name)) self.old
             ≡ step_of turn self.new end.new) }
     {
-        let found = self.dicts.find_name(&self.store, name).copied();
-        self.execute_value(end, name, found)
-    }
-
-    #[tactic(auto, unfolding(crate::specs::Steps::execute_value))]
-    fn execute_value(&mut self, end: &mut End, name: &Name, found: Option<Obj>) -> Mem<Turn>
-        ensures memory { OnErr result (value_takes_memory found ≡ true) }
-        ensures value { IfOk result (λ turn. execute_value name.now found self.old ≡ step_of turn self.new end.new) }
-    {
-        match &found {
-            Some(o) => match o {
-                Obj::Array(p, true) => Ok(self.call(end, name, *p)),
-                Obj::Oper(op) => self.operate(end, *op),
-                Obj::Name(_, true) => {
-                    if self.count >= OBJECTS {
-                        return Ok(timeout(end));
-                    }
-                    self.count += 1;
-                    self.at_once = Some(*o);
-                    Ok(Turn::Went)
-                }
-                _ => Ok(self.push(end, b"push", *o)),
-            },
-            None => Ok(self.fail(end, PsName::Undefined, *name)),
+        match self.dicts.find_name(&self.store, &name) {
+            Some(Obj::Array(p, true)) => {
+                let p = *p;
+                Ok(self.call(end, &name, p))
+            }
+            Some(Obj::Oper(op)) => {
+                let op = *op;
+                self.operate(end, op)
+            }
+            Some(Obj::Name(value, true)) => {
+                let value = value.again();
+                Ok(self.execute_next(end, value))
+            }
+            Some(o) => {
+                let o = o.again();
+                Ok(self.push_object(end, o))
+            }
+            None => Ok(self.fail_unknown(end, &name)),
         }
     }
 
+    /// An executable name that was found counts, and is executed in its turn.
+    #[inline(never)]
+    fn execute_next(&mut self, end: &mut End, name: Symbol) -> Turn
+        ensures { counted self.old (λ t. Goes (record t { at_once = Some (Obj.Name name true) }))
+            ≡ step_of result self.new end.new }
+    {
+        if self.count >= OBJECTS {
+            return timeout(end);
+        }
+        self.count += 1;
+        self.at_once = Some(Obj::Name(name, true));
+        Turn::Went
+    }
+
+    /// A name has no value.
+    #[cold]
+    #[inline(never)]
+    fn fail_unknown(&mut self, end: &mut End, name: &Symbol) -> Turn
+        ensures { failed PsName.Undefined name.now self.old ≡ step_of result self.new end.new }
+    {
+        self.fail(end, PsName::Undefined, name.name())
+    }
+
     /// A procedure found by a name runs.
-    fn call(&mut self, end: &mut End, name: &Name, p: Part) -> Turn
+    fn call(&mut self, end: &mut End, name: &Symbol, p: Part) -> Turn
         ensures { call name.now (Level.Procedure p) self.old ≡ step_of result self.new end.new }
     {
         match self.flow.call(p) {
             Ok(()) => Turn::Went,
-            Err(_) => self.fail(end, PsName::ExecStackOverflow, *name),
+            Err(_) => self.fail_call(end, name),
         }
+    }
+
+    /// There is no room for the level of a procedure found by a name.
+    #[cold]
+    #[inline(never)]
+    fn fail_call(&mut self, end: &mut End, name: &Symbol) -> Turn
+        ensures { failed PsName.ExecStackOverflow name.now self.old ≡ step_of result self.new end.new }
+    {
+        self.fail(end, PsName::ExecStackOverflow, name.name())
     }
 
     /// Does an operator's row. Out of memory comes of an operator that takes some.

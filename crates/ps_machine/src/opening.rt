@@ -12,14 +12,14 @@ use gfx_state::Gfx;
 use press_fault::{Grow, Mem, NoMemory};
 use ps_flow::Flow;
 use ps_scan::Scanner;
-use ps_store::{Dicts, Key, Obj, Oper, Stack, Store};
+use ps_store::{Dicts, Obj, Oper, Sought, Stack, Store};
 use std::alloc::Global;
 
 /// Defines an operator in systemdict, where no limit refuses it.
 fn define_operator(store: &mut Store, op: Oper) -> Mem<()>
     ensures { OnOk result (store.new ≡ with_operator store.old op) }
 {
-    match store.define(0, Key::Named(command_of(op)), Obj::Oper(op)) {
+    match store.define(0, &Sought::name(command_of(op)), Obj::Oper(op)) {
         Ok(()) => Ok(()),
         Err(Grow::LimitCheck) => Ok(()),
         Err(Grow::NoMemory) => Err(NoMemory),
@@ -41,7 +41,7 @@ fn fill(store: &mut Store) -> Mem<()>
 pub(crate) fn opening_of(alloc: Global, program: Vec<u8>, setup: Setup) -> Mem<Body>
     ensures { IfOk result (λ body. body ≡ opening opening_store program.items setup) }
 {
-    let mut store = Store::new(alloc);
+    let mut store = Store::new(alloc)?;
     let dicts = Dicts::new(&mut store)?;
     fill(&mut store)?;
     Ok(Body {

@@ -36,10 +36,10 @@ impl Body {
         ensures { IfOk result (λ turn. read_token token self.old ≡ step_of turn self.new end.new) }
     {
         match token {
-            Token::Int(n) => self.meet(end, &Obj::Int(n)),
-            Token::Real(raw) => self.meet(end, &Obj::Real(raw)),
-            Token::Literal(name) => self.meet(end, &Obj::Name(name, false)),
-            Token::Exec(name) => self.meet(end, &Obj::Name(name, true)),
+            Token::Int(n) => self.meet(end, Obj::Int(n)),
+            Token::Real(raw) => self.meet(end, Obj::Real(raw)),
+            Token::Literal(name) => self.meet_name(end, &name, false),
+            Token::Exec(name) => self.meet_name(end, &name, true),
             Token::Now(name) => self.meet_value(end, &name),
             Token::Text(bytes) => self.meet_string(end, &bytes),
             Token::Open => {
@@ -55,8 +55,8 @@ impl Body {
     }
 
     /// An object of the text: an element of the procedure that is open, else it is executed.
-    fn meet(&mut self, end: &mut End, o: &Obj) -> Mem<Turn>
-        ensures { IfOk result (λ turn. met o.now self.old.unclosed self.old ≡ step_of turn self.new end.new) }
+    fn meet(&mut self, end: &mut End, o: Obj) -> Mem<Turn>
+        ensures { IfOk result (λ turn. met o self.old.unclosed self.old ≡ step_of turn self.new end.new) }
     {
         if self.unclosed.is_empty() {
             if self.count >= OBJECTS {
@@ -65,9 +65,18 @@ impl Body {
             self.count += 1;
             self.execute(end, o)
         } else {
-            self.unclosed.add(*o)?;
+            self.unclosed.add(o)?;
             Ok(Turn::Went)
         }
+    }
+
+    /// A name of the text.
+    fn meet_name(&mut self, end: &mut End, name: &Name, is_executable: bool) -> Mem<Turn>
+        ensures { IfOk result (λ turn. met (Obj.Name name.now is_executable) self.old.unclosed self.old
+            ≡ step_of turn self.new end.new) }
+    {
+        let name = self.store.symbol(name)?;
+        self.meet(end, Obj::Name(name, is_executable))
     }
 
     /// A name that is looked up at once.
@@ -76,8 +85,12 @@ impl Body {
             met_value name.now (find_key self.old.store self.old.dicts (Named name.now)) self.old
             ≡ step_of turn self.new end.new) }
     {
-        match self.dicts.find_name(&self.store, name).copied() {
-            Some(o) => self.meet(end, &o),
+        let kept = self.store.symbol(name)?;
+        match self.dicts.find_name(&self.store, &kept) {
+            Some(o) => {
+                let o = o.again();
+                self.meet(end, o)
+            }
             None => Ok(self.fail(end, PsName::Undefined, *name)),
         }
     }
@@ -89,7 +102,7 @@ impl Body {
             step_of turn self.new end.new) }
     {
         match self.store.new_text_of(bytes.items()) {
-            Ok(span) => self.meet(end, &Obj::Text(span)),
+            Ok(span) => self.meet(end, Obj::Text(span)),
             Err(Grow::LimitCheck) => Ok(self.refuse(end)),
             Err(Grow::NoMemory) => Err(NoMemory),
         }
@@ -103,7 +116,7 @@ impl Body {
             return Ok(self.fail(end, PsName::SyntaxError, named(b"scan")));
         };
         match self.store.new_array_of(procedure.items()) {
-            Ok(span) => self.meet(end, &Obj::Array(span, true)),
+            Ok(span) => self.meet(end, Obj::Array(span, true)),
             Err(Grow::LimitCheck) => Ok(self.refuse(end)),
             Err(Grow::NoMemory) => Err(NoMemory),
         }

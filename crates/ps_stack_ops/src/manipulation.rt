@@ -35,7 +35,7 @@ pub(crate) fn exch(stack: &mut Stack) -> Result<(), OpFault>
     let Some((b, a)) = stack.top_two() else {
         return Err(OpFault::Ps(PsName::StackUnderflow));
     };
-    let (b, a) = (*b, *a);
+    let (b, a) = (b.again(), a.again());
     stack.replace_two(b, a);
     Ok(())
 }
@@ -87,7 +87,7 @@ pub(crate) fn index(stack: &mut Stack) -> Result<(), OpFault>
     let Some(wanted) = stack.at(n.unsigned_abs() as usize + 1) else {
         return Err(OpFault::Ps(PsName::StackUnderflow));
     };
-    let wanted = *wanted;
+    let wanted = wanted.again();
     stack.replace(1, wanted);
     Ok(())
 }

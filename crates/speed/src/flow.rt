@@ -31,7 +31,9 @@ fn turns_of(flow: &mut Flow, requests: u32) -> u32 {
 
 /// Prints how many turns there were.
 pub(crate) fn run(rt: &HostRuntime, size: Size) -> io::Result<()> {
-    let mut store = Store::new(rt.alloc());
+    let Ok(mut store) = Store::new(rt.alloc()) else {
+        return Err(no_memory());
+    };
     let Ok(dicts) = Dicts::new(&mut store) else {
         return Err(no_memory());
     };

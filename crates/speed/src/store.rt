@@ -3,7 +3,7 @@
 
 use crate::{Size, no_memory};
 use press_fault::{Mem, Name, NoMemory};
-use ps_store::{Key, Obj, Store};
+use ps_store::{Key, Obj, Sought, Store, Symbol};
 use std::alloc::Global;
 use std::collections::HashMap;
 use std::io;
@@ -29,11 +29,20 @@ fn numbered(n: u32) -> Mem<Name> {
     }
 }
 
-/// The names as keys.
-fn keys_of(alloc: Global) -> Mem<Vec<Key>> {
-    let mut keys = Vec::new(alloc);
+/// The names, as a store keeps them.
+fn names_of(alloc: Global, store: &mut Store) -> Mem<Vec<Symbol>> {
+    let mut names = Vec::new(alloc);
     for n in 0..NAMES {
-        keys.push(Key::Named(numbered(n)?))?;
+        names.push(store.symbol(&numbered(n)?)?)?;
+    }
+    Ok(names)
+}
+
+/// The names as keys.
+fn keys_of(alloc: Global, names: &[Symbol]) -> Mem<Vec<Key>> {
+    let mut keys = Vec::new(alloc);
+    for name in names {
+        keys.push(Key::Named(name.again()))?;
     }
     Ok(keys)
 }
@@ -41,7 +50,7 @@ fn keys_of(alloc: Global) -> Mem<Vec<Key>> {
 fn map_of(alloc: Global, keys: &[Key]) -> Mem<HashMap<Key, Obj>> {
     let mut map = HashMap::new(alloc);
     for key in keys {
-        map.insert(*key, Obj::Null)?;
+        map.insert(key.again(), Obj::Null)?;
     }
     Ok(map)
 }
@@ -52,18 +61,19 @@ fn defined(store: &mut Store, keys: &[Key]) -> Mem<u32> {
         return Err(NoMemory);
     };
     for key in keys {
-        if store.define(dict, *key, Obj::Null).is_err() {
+        let key = Sought::key(key.again());
+        if store.define(dict, &key, Obj::Null).is_err() {
             return Err(NoMemory);
         }
     }
     Ok(dict)
 }
 
-fn found_in_dictionary(store: &Store, dict: u32, keys: &[Key], rounds: u32) -> u32 {
+fn found_in_dictionary(store: &Store, dict: u32, names: &[Symbol], rounds: u32) -> u32 {
     let mut found = 0u32;
     for _ in 0..rounds {
-        for key in keys {
-            if store.look_up(dict, key).is_some() {
+        for name in names {
+            if store.look_up_name(dict, name).is_some() {
                 found = found.wrapping_add(1);
             }
         }
@@ -87,8 +97,13 @@ fn found_in_map(map: &HashMap<Key, Obj>, keys: &[Key], rounds: u32) -> u32 {
 pub(crate) fn run(rt: &HostRuntime, size: Size) -> io::Result<()> {
     let alloc = rt.alloc();
     let rounds = size.rounds(10_000, 10);
-    let mut store = Store::new(alloc);
-    let Ok(keys) = keys_of(alloc) else {
+    let Ok(mut store) = Store::new(alloc) else {
+        return Err(no_memory());
+    };
+    let Ok(names) = names_of(alloc, &mut store) else {
+        return Err(no_memory());
+    };
+    let Ok(keys) = keys_of(alloc, &names) else {
         return Err(no_memory());
     };
     let Ok(map) = map_of(alloc, &keys) else {
@@ -98,7 +113,7 @@ pub(crate) fn run(rt: &HostRuntime, size: Size) -> io::Result<()> {
         return Err(no_memory());
     };
     let start = Instant::now(rt)?;
-    let found = found_in_dictionary(&store, dict, &keys, rounds);
+    let found = found_in_dictionary(&store, dict, &names, rounds);
     let in_dictionary = start.elapsed(rt)?.as_millis();
     let start = Instant::now(rt)?;
     let found_too = found_in_map(&map, &keys, rounds);

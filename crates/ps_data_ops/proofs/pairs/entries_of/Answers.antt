@@ -22,12 +22,17 @@ returns-in_default-key_of c =
     subst (λ (n : ℕ). slice_get stack n ≡ Some c.in-Some.key.now) place
     (sym c.at.ensures ∙ ap option_copied c.in-Some.is) in
     let second : slice_get stack k ≡ Some value = sym c.at-in-loop-left.ensures ∙ ap option_copied c.in-Some-at.is in
-    let no_name : key_of s c.in-Some.key.now ≡ Err c.in_default-key_of.field-0 = sym c.key_of.ensures
-    ∙ c.in_default-key_of.is in
-    sym (ap (λ key. and_then (with_pair entries key value) (λ more. entered s more (reverse (take k stack)))) no_name)
-    ∙ (sym (ap (λ (n : ℕ). entered s entries (reverse (take n stack))) all
-    ∙ pair_entered s entries stack k c.in-Some.key.now value first second)
-    ∙ c.loop-left.invariant.same)
+    let no_name : key_of s c.in-Some.key.now ≡ Err c.in_default-key_of.field-0 = ap (λ t. key_of t c.in-Some.key.now) (sym c.loop-left.invariant.store)
+    ∙ (sym c.key_of.ensures ∙ c.in_default-key_of.is) in
+    record {
+      entries =
+          sym (ap (λ key. and_then (with_pair entries key value) (λ more. entered s more (reverse (take k stack))))
+          no_name)
+          ∙ (sym (ap (λ (n : ℕ). entered s entries (reverse (take n stack))) all
+          ∙ pair_entered s entries stack k c.in-Some.key.now value first second)
+          ∙ c.loop-left.invariant.same);
+      store = c.loop-left.invariant.store;
+    }
 
 pub loop-left-preserved : goal.loop-left-preserved
 loop-left-preserved c =
@@ -43,8 +48,12 @@ loop-left-preserved c =
     subst (λ (n : ℕ). slice_get stack n ≡ Some c.in-Some.key.now) place
     (sym c.at.ensures ∙ ap option_copied c.in-Some.is) in
     let second : slice_get stack k ≡ Some value = sym c.at-in-loop-left.ensures ∙ ap option_copied c.in-Some-at.is in
-    let named : key_of s c.in-Some.key.now ≡ Ok c.in-Ok.key = sym c.key_of.ensures ∙ c.in-Ok.is in
-    let more : c.define.new.self ≡ insert_entry same_key entries c.in-Ok.key value = c.in_ok-define.ensures.ok in
+    let named : key_of s c.in-Some.key.now ≡ Ok c.in-Ok.key =
+    ap (λ t. key_of t c.in-Some.key.now) (sym c.loop-left.invariant.store) ∙ (sym c.key_of.ensures ∙ c.in-Ok.is) in
+    let more : c.define.new.self ≡ insert_entry same_key entries c.in-Ok.key value =
+    c.in_ok-define.ensures.ok
+    ∙ (ap (λ made. insert_entry same_key entries made c.again.result) c.in_ok-made.ensures.ok
+    ∙ ap (insert_entry same_key entries c.in-Ok.key) c.again.ensures) in
     let long : length c.define.new.self ≡ length (insert_entry same_key entries c.in-Ok.key value) = ap length more in
     record {
       held = omega (arith, c.loop-left.invariant.held);
@@ -56,4 +65,5 @@ loop-left-preserved c =
           ∙ (sym (ap (λ (n : ℕ). entered s entries (reverse (take n stack))) all
           ∙ pair_entered s entries stack k c.in-Some.key.now value first second)
           ∙ c.loop-left.invariant.same));
+      store = c.in_ok-made.ensures.same ∙ c.loop-left.invariant.store;
     }

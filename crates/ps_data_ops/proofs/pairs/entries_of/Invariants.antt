@@ -7,7 +7,10 @@ abbrev pub invariant-loop-left : goal.invariant-loop-left
 invariant-loop-left l = record {
   held : l.left ≤ length l.stack;
   small : length l.entries + l.left ≤ 500;
-  same : entered l.store l.entries (reverse (take l.left l.stack)) ≡ entered l.store [] (reverse (take l.len l.stack));
+  same :
+      entered l.fn.store l.entries (reverse (take l.left l.stack))
+      ≡ entered l.fn.store [] (reverse (take l.len l.stack));
+  store : l.store ≡ l.fn.store;
 }
 
 abbrev pub decreases-loop-left : goal.decreases-loop-left
