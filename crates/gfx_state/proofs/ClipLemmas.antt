@@ -64,7 +64,7 @@ by_room false clips number old clip saved marks h = with_none clips number old c
 pub with_new : (clips : ℕ) (number : Option ℕ) (old clip : List RegionValue) (saved : List StateValue)
     (marks : List MarkValue) → AreClipsNumbered clips number old saved marks →
     AreClipsNumbered (next_count clips) (next_number clips) clip saved marks
-with_new clips number old clip saved marks h = by_room (nat_lt clips 4294967295) clips number old clip saved marks h
+with_new clips number old clip saved marks h = by_room (nat_lt clips 4294967294) clips number old clip saved marks h
 
 -- the whole page as the clip
 pub with_whole : (clips : ℕ) (number : Option ℕ) (old : List RegionValue) (saved : List StateValue)

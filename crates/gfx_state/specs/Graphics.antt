@@ -174,13 +174,13 @@ with_miter g limit = if int_lt limit (pos 65536) then None
 abbrev pub with_dash : GfxValue → List ℤ → ℤ → GfxValue
 with_dash g dashes offset = with_line g (record g.state.line { dashes = dashes; offset = offset })
 
--- the number of the next clip, 0 being that of the whole page; none once 4,294,967,295 are given
+-- the number of the next clip, 0 being that of the whole page; none once 4,294,967,294 are given
 abbrev pub next_number : ℕ → Option ℕ
-next_number clips = if nat_lt clips 4294967295 then Some (clips + 1) else None
+next_number clips = if nat_lt clips 4294967294 then Some (clips + 1) else None
 
 -- how many clips were given a number, with the next clip
 abbrev pub next_count : ℕ → ℕ
-next_count clips = if nat_lt clips 4294967295 then clips + 1 else clips
+next_count clips = if nat_lt clips 4294967294 then clips + 1 else clips
 
 -- with another clip, which takes the next number
 abbrev pub with_clip : GfxValue → List RegionValue → GfxValue

@@ -10,7 +10,7 @@ use crate::line_style::LineStyle;
 use crate::state::{SAVED, Saved, State};
 use geo_matrix::Matrix;
 use geo_path::Path;
-use page_model::{Clip, Marks, Page};
+use page_model::{Clip, ClipNumber, Marks, Page};
 use press_fault::{Code, Grow, Mem};
 use press_nums::{Fix, Wide, fix_small};
 use std::alloc::Global;
@@ -208,7 +208,7 @@ fn initial(height: u32, res: u32) -> State
         code: Space::Gray.first_colour(),
         path: None,
         clip: None,
-        clip_number: Some(0),
+        clip_number: ClipNumber::of(0),
         line: LineStyle::initial(),
     }
 }

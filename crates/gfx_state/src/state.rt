@@ -9,7 +9,7 @@ use crate::colour::Space;
 use crate::line_style::LineStyle;
 use geo_matrix::Matrix;
 use geo_path::Path;
-use page_model::Clip;
+use page_model::{Clip, ClipNumber};
 use press_fault::{Code, Mem};
 use std::alloc::Global;
 use std::marker::Model;
@@ -28,7 +28,7 @@ pub(crate) struct State {
     /// `None` where the clip has no regions, so that setting it takes no memory.
     pub(crate) clip: Option<Arc<Clip>>,
     /// States and marks that have the same number have the same clip.
-    pub(crate) clip_number: Option<u32>,
+    pub(crate) clip_number: ClipNumber,
     pub(crate) line: LineStyle,
 }
 
@@ -97,7 +97,7 @@ impl State {
         }
     }
 
-    pub(crate) fn put_clip(&mut self, clip: Arc<Clip>, number: Option<u32>)
+    pub(crate) fn put_clip(&mut self, clip: Arc<Clip>, number: ClipNumber)
         ensures { self.new ≡ record self.old { clip = arc_value clip; clip_number = number } }
     {
         self.clip = Some(clip);

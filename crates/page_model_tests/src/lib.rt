@@ -9,7 +9,7 @@ ghost use Rattle.page_model.specs.Page.{HasKnownSource};
 ghost use Rattle.page_model.specs.Cover.{HasChannels};
 
 use page_model::{
-    Bytes, Clip, Disc, Image, ImageMap, Ink, Mark, Marks, Page, Paint, Region, Ring, Rings, Rule,
+    Bytes, Clip, ClipNumber, Disc, Image, ImageMap, Ink, Mark, Marks, Page, Paint, Region, Ring, Rings, Rule,
     Shape, Shapes, Table, plain_dot, plain_rule, point, reach,
 };
 use press_fault::{Code, Mem, Point};
@@ -95,7 +95,7 @@ fn filled(alloc: Global, rule: Rule, shape: Shape, clip: Clip, ink: Ink) -> Mem<
         rule,
         shapes: Arc::new(alloc, shapes)?,
         clip: Arc::new(alloc, clip)?,
-        clip_number: None,
+        clip_number: ClipNumber::none(),
         paint: Paint::Flat(ink),
     })
 }
@@ -289,7 +289,7 @@ fn placed(alloc: Global, paint: Paint) -> Mem<Mark>
         rule: Rule::Nonzero,
         shapes: Arc::new(alloc, Shapes::new(alloc))?,
         clip: Arc::new(alloc, Clip::new(alloc))?,
-        clip_number: None,
+        clip_number: ClipNumber::none(),
         paint,
     })
 }
