@@ -517,3 +517,10 @@ fn bytes_keep_their_order(rt: HostRuntime) -> Result<(), Fail> {
     );
     Ok(())
 }
+
+#[test]
+fn a_clip_has_a_number_or_none(rt: HostRuntime) -> Result<(), Fail> {
+    let numbers = (ClipNumber::of(7).get(), ClipNumber::none().get());
+    assert_eq!(rt; numbers, (Some(7), None));
+    Ok(())
+}
