@@ -9,8 +9,8 @@ ghost use Rattle.page_model.specs.Page.{HasKnownSource};
 ghost use Rattle.page_model.specs.Cover.{HasChannels};
 
 use page_model::{
-    Bytes, Clip, ClipNumber, Disc, Image, ImageMap, Ink, Mark, Marks, Page, Paint, Region, Ring, Rings, Rule,
-    Shape, Shapes, Table, plain_dot, plain_rule, point, reach,
+    Bytes, Clip, ClipNumber, Disc, Image, ImageMap, Ink, Mark, Marks, Page, Paint, Region, Ring,
+    Rings, Rule, Shape, Shapes, Table, plain_dot, plain_rule, point, reach,
 };
 use press_fault::{Code, Mem, Point};
 use press_nums::Wide;

@@ -23,11 +23,7 @@ pub(crate) fn currentgray(stack: &mut Stack, gfx: &mut Gfx) -> Result<(), OpFaul
 }
 
 /// `setgray`, `setrgbcolor` and `setcmykcolor`: their space and a colour of it.
-pub(crate) fn set_colour(
-    space: Space,
-    stack: &mut Stack,
-    gfx: &mut Gfx,
-) -> Result<(), OpFault>
+pub(crate) fn set_colour(space: Space, stack: &mut Stack, gfx: &mut Gfx) -> Result<(), OpFault>
     ensures answers { GraphicsAnswers (colour_row space stack.old gfx.old)
         result stack.old gfx.old stack.new gfx.new }
     ensures never { result ≢ Err OpFault.NoMemory }
