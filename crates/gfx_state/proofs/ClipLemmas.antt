@@ -1,13 +1,14 @@
 -- The numbers of clips.
 use Rattle.std.proofs.Common.{◌≡◌, ◌≤◌, ◌+◌, ℕ, refl, sym, ◌∙◌, ap, arith, Bool, true}
-use Rattle.std.proofs.Common.{false, List, [], ◌∷◌, All, Option, Some, None, reverse, slice_get, subst}
+use Rattle.std.proofs.Common.{false, zero, suc, List, [], ◌∷◌, All, Option, Some, None, reverse, take, slice_get, subst}
 use Rattle.std.specs.Prelude.{nat_le, nat_lt, if◌then◌else◌}
 use Rattle.std.specs.Option.{IfSome}
 use Rattle.std.proofs.lemmas.Bool.{le-leb, lt-leb}
 use Rattle.std.proofs.lemmas.List.Elements.{All-weaker, All-head, All-tail, All-take, All-nil}
 use Rattle.std.proofs.lemmas.List.Sorted.{IsPermutation-reverse, All-permutation}
 use Rattle.page_model.specs.Marking.{RegionValue, MarkValue}
-use Rattle.gfx_state.specs.Graphics.{StateValue, next_count, next_number, first_saved, only_first}
+use Rattle.page_model.specs.Page.{HasClipOfNumber, HaveNumberedClips}
+use Rattle.gfx_state.specs.Graphics.{StateValue, next_count, next_number, first_above, up_to_first_above}
 use Rattle.gfx_state.specs.Keeping.{IsClipOfNumber, IsStateNumbered, IsMarkNumbered, AreClipsNumbered}
 
 -- the clips of numbers up to a count, and another clip for greater ones
@@ -64,7 +65,7 @@ by_room false clips number old clip saved marks h = with_none clips number old c
 pub with_new : (clips : ℕ) (number : Option ℕ) (old clip : List RegionValue) (saved : List StateValue)
     (marks : List MarkValue) → AreClipsNumbered clips number old saved marks →
     AreClipsNumbered (next_count clips) (next_number clips) clip saved marks
-with_new clips number old clip saved marks h = by_room (nat_lt clips 4294967295) clips number old clip saved marks h
+with_new clips number old clip saved marks h = by_room (nat_lt clips 4294967294) clips number old clip saved marks h
 
 -- the whole page as the clip
 pub with_whole : (clips : ℕ) (number : Option ℕ) (old : List RegionValue) (saved : List StateValue)
@@ -109,23 +110,37 @@ with_popped clips number clip state saved left marks is h = with_last clips numb
 backwards : (P : StateValue → Type 0) (saved : List StateValue) → All P saved → All P (reverse saved)
 backwards P saved h = All-permutation P saved (reverse saved) (IsPermutation-reverse saved) h
 
-first_has : (P : StateValue → Type 0) (saved : List StateValue) → All P saved → IfSome (slice_get saved 0) P
-first_has P [] h = tt
-first_has P (state ∷ saved) h = All-head P state saved h
+one_has : (P : StateValue → Type 0) (saved : List StateValue) (n : ℕ) → All P saved → IfSome (slice_get saved n) P
+one_has P [] n h = tt
+one_has P (state ∷ saved) zero h = All-head P state saved h
+one_has P (state ∷ saved) (suc n) h = one_has P saved n (All-tail P state saved h)
 
--- the state saved first, which stays saved alone
-pub with_first : (clips : ℕ) (number : Option ℕ) (clip : List RegionValue) (saved : List StateValue)
-    (marks : List MarkValue) (state : StateValue) → Some state ≡ first_saved saved →
+-- the state saved first above so many, which stays saved with these
+pub with_first : (floor clips : ℕ) (number : Option ℕ) (clip : List RegionValue) (saved : List StateValue)
+    (marks : List MarkValue) (state : StateValue) → Some state ≡ first_above floor saved →
     AreClipsNumbered clips number clip saved marks →
-    AreClipsNumbered clips state.clip_number state.clip (only_first saved) marks
-with_first clips number clip saved marks state first h =
-    let all : All (IsStateNumbered h.clip_of clips) (reverse saved) =
-    backwards (IsStateNumbered h.clip_of clips) saved h.copies in
+    AreClipsNumbered clips state.clip_number state.clip (up_to_first_above floor saved) marks
+with_first floor clips number clip saved marks state first h =
+    let P : StateValue → Type 0 = IsStateNumbered h.clip_of clips in
+    let all : All P (reverse saved) = backwards P saved h.copies in
     record {
       clip_of = h.clip_of;
       whole = h.whole;
-      current = subst (λ o. IfSome o (IsStateNumbered h.clip_of clips)) (sym first)
-          (first_has (IsStateNumbered h.clip_of clips) (reverse saved) all);
-      copies = All-take (IsStateNumbered h.clip_of clips) 1 (reverse saved) all;
+      current = subst (λ o. IfSome o P) (sym first) (one_has P (reverse saved) floor all);
+      copies = backwards P (take (floor + 1) (reverse saved)) (All-take P (floor + 1) (reverse saved) all);
       painted = h.painted;
     }
+
+unbounded : (clip_of : ℕ → List RegionValue) (clips : ℕ) (number : Option ℕ) (clip : List RegionValue) →
+    IsClipOfNumber clip_of clips number clip → IfSome number (λ n. clip ≡ clip_of n)
+unbounded clip_of clips None clip h = tt
+unbounded clip_of clips (Some n) clip h = h.1
+
+-- marks of one clip number have one clip
+pub marks_numbered : (clips : ℕ) (number : Option ℕ) (clip : List RegionValue) (saved : List StateValue)
+    (marks : List MarkValue) → AreClipsNumbered clips number clip saved marks → HaveNumberedClips marks
+marks_numbered clips number clip saved marks h = record {
+  clip_of = h.clip_of;
+  each = All-weaker (IsMarkNumbered h.clip_of clips) (HasClipOfNumber h.clip_of)
+      (λ m. unbounded h.clip_of clips m.clip_number m.clip) marks h.painted;
+}

@@ -1,9 +1,8 @@
 -- The graphics state, its saved copies, and the page that is painted
 -- (PostScript Language Reference, third edition, 4.2 Graphics State and 8.2 Operator Details). Own rules: the limits of
--- saved
--- states, clips, marks and points, and of the dashes of a stroke.
-use Rattle.std.specs.Prelude.{ℕ, ℤ, pos, neg_ℤ, int_lt, unsigned_abs, ◌+◌, ◌*◌, ◌&&◌, List, [], ◌∷◌, ◌++◌, length}
-use Rattle.std.specs.Prelude.{reverse, take, slice_get, Option, Some, None, Result, Ok, Err, nat_lt, nat_le, Bool}
+-- saved states and clips, and of the dashes of a stroke.
+use Rattle.std.specs.Prelude.{ℕ, ℤ, pos, neg_ℤ, int_lt, unsigned_abs, ◌+◌, ◌*◌, List, [], ◌∷◌, ◌++◌, length, Bool, true}
+use Rattle.std.specs.Prelude.{false, reverse, take, slice_get, Option, Some, None, Result, Ok, Err, nat_lt}
 use Rattle.std.specs.Prelude.{if◌then◌else◌}
 use Rattle.std.specs.Option.{option_map, option_and_then}
 use Rattle.press_nums.specs.Rounding.{div_round}
@@ -16,19 +15,22 @@ use Rattle.geo_path.specs.Path.{PathValue, count_of}
 use Rattle.geo_path.specs.Flat.{PolylineValue, lines_of, rings_of}
 use Rattle.geo_stroke.specs.Pen.{PenValue, cap_of, join_of}
 use Rattle.geo_stroke.specs.Dash.{dash_count, outline_of}
-use Rattle.page_model.specs.Marking.{RegionValue, MarkValue, Flatly}
+use Rattle.page_model.specs.Image.{ImageValue}
+use Rattle.page_model.specs.Marking.{RegionValue, MarkValue, PaintValue, Flatly, Pictured, Masked}
 use Rattle.page_model.specs.Page.{PageValue}
 use Rattle.page_model.specs.declared.shape.Rule.{Rule}
 use Rattle.page_model.specs.declared.shape.Rule.TheVariants.{Nonzero}
 use Rattle.page_model.specs.declared.shape.Shape.{Shape}
 use Rattle.page_model.specs.declared.shape.Shape.TheVariants.{Poly}
+use Rattle.page_model.specs.declared.mark.Ink.{Ink}
 use Rattle.page_model.specs.declared.mark.Ink.TheVariants.{Plain}
 use Rattle.gfx_state.specs.declared.colour.Space.{Space}
 use Rattle.gfx_state.specs.declared.colour.Space.TheVariants.{Gray}
 use Rattle.gfx_state.specs.Colour.{codes_of, first_colour}
 use Rattle.gfx_state.specs.Lines.{LineStyleValue, initial_line}
 use Rattle.gfx_state.specs.Stroke.{pen_of}
-use Rattle.gfx_state.specs.Points.{ring_points, all_points, mark_points}
+use Rattle.gfx_state.specs.Points.{ring_points, all_points}
+use Rattle.gfx_state.specs.CurrentPage.{CurrentPageValue, blank_page, with_mark, has_room, has_image_room}
 
 -- a page's size in dots, and the dots of an inch
 pub record PageSize : Type 0 where
@@ -37,7 +39,7 @@ pub record PageSize : Type 0 where
   pub res : ℕ
 
 -- one graphics state: the current transformation matrix, the colour space, the colour's codes, the path, the clip with
--- its number, if it has one, and the line parameters
+-- its number, if it has one, the line parameters, and the number of the font's dictionary, none before a font is set
 pub record StateValue : Type 0 where
   pub matrix : MatrixValue
   pub space : Space
@@ -46,15 +48,17 @@ pub record StateValue : Type 0 where
   pub clip : List RegionValue
   pub clip_number : Option ℕ
   pub line : LineStyleValue
+  pub font : Option ℕ
 
--- the page's size, the current state, its saved copies (the last one saved first), how many clips were given a number,
--- and the marks of the page so far
+-- the page's size, the current state, its saved copies (the last one saved first), how many of the first saved ones
+-- `grestore` and `grestoreall` leave alone, how many clips were given a number, and the current page
 pub record GfxValue : Type 0 where
   pub size : PageSize
   pub state : StateValue
   pub saved : List StateValue
+  pub floor : ℕ
   pub clips : ℕ
-  pub marks : List MarkValue
+  pub page : CurrentPageValue
 
 -- dots for each point of 1/72 inch, as a raw number
 abbrev pub dots_per_point : ℕ → ℤ
@@ -75,9 +79,10 @@ default_matrix size = record {
 abbrev pub no_path : PathValue
 no_path = record { before = []; last = None }
 
--- what `initgraphics` sets: the default matrix, black in gray, no path, no clip, the first line parameters
-abbrev pub initial_state : PageSize → StateValue
-initial_state size = record {
+-- what `initgraphics` sets: the default matrix, black in gray, no path, no clip, the first line parameters; it leaves
+-- the font
+abbrev pub initial_state : PageSize → Option ℕ → StateValue
+initial_state size font = record {
   matrix = default_matrix size;
   space = Gray;
   code = first_colour Gray;
@@ -86,11 +91,19 @@ initial_state size = record {
   clip = [];
   clip_number = Some 0;
   line = initial_line;
+  font = font;
 }
 
--- a blank page, as a program finds it, with what `initgraphics` sets and no saved state
+-- a blank page, as a program finds it, with what `initgraphics` sets, no font and no saved state
 abbrev pub opening : PageSize → GfxValue
-opening size = record { size = size; state = initial_state size; saved = []; clips = 0; marks = [] }
+opening size = record {
+  size = size;
+  state = initial_state size None;
+  saved = [];
+  floor = 0;
+  clips = 0;
+  page = blank_page;
+}
 
 -- From here on each call is written as `record g { .. }`: what it doesn't name stays as it is.
 
@@ -98,13 +111,13 @@ opening size = record { size = size; state = initial_state size; saved = []; cli
 abbrev pub with_state : GfxValue → StateValue → GfxValue
 with_state g state = record g { state = state }
 
--- the graphics state after `initgraphics`, which leaves the saved states and the marks as they are
+-- the graphics state after `initgraphics`, which leaves the font, the saved states and the marks as they are
 abbrev pub with_initial : GfxValue → GfxValue
-with_initial g = with_state g (initial_state g.size)
+with_initial g = with_state g (initial_state g.size g.state.font)
 
--- the page without its marks
+-- with a page without marks, on which all limits count from 0 again
 abbrev pub erased : GfxValue → GfxValue
-erased g = record g { marks = [] }
+erased g = record g { page = blank_page }
 
 -- a blank page of another size in dots, with what `initgraphics` sets; the saved states and the dots of an inch stay
 abbrev pub resized : GfxValue → ℕ → ℕ → GfxValue
@@ -148,6 +161,10 @@ with_space g space = with_state g (record g.state { space = space; code = first_
 abbrev pub with_colour : GfxValue → List ℤ → GfxValue
 with_colour g values = with_state g (record g.state { code = codes_of values })
 
+-- with the font of a dictionary
+abbrev pub with_font : GfxValue → ℕ → GfxValue
+with_font g dict = with_state g (record g.state { font = Some dict })
+
 -- with other line parameters
 abbrev pub with_line : GfxValue → LineStyleValue → GfxValue
 with_line g line = with_state g (record g.state { line = line })
@@ -174,13 +191,13 @@ with_miter g limit = if int_lt limit (pos 65536) then None
 abbrev pub with_dash : GfxValue → List ℤ → ℤ → GfxValue
 with_dash g dashes offset = with_line g (record g.state.line { dashes = dashes; offset = offset })
 
--- the number of the next clip, 0 being that of the whole page; none once 4,294,967,295 are given
+-- the number of the next clip, 0 being that of the whole page; none once 4,294,967,294 are given
 abbrev pub next_number : ℕ → Option ℕ
-next_number clips = if nat_lt clips 4294967295 then Some (clips + 1) else None
+next_number clips = if nat_lt clips 4294967294 then Some (clips + 1) else None
 
 -- how many clips were given a number, with the next clip
 abbrev pub next_count : ℕ → ℕ
-next_count clips = if nat_lt clips 4294967295 then clips + 1 else clips
+next_count clips = if nat_lt clips 4294967294 then clips + 1 else clips
 
 -- with another clip, which takes the next number
 abbrev pub with_clip : GfxValue → List RegionValue → GfxValue
@@ -217,52 +234,55 @@ abbrev pub back_to : GfxValue → List StateValue → GfxValue
 back_to g [] = g
 back_to g (state ∷ saved) = record g { state = state; saved = saved }
 
--- what `grestore` does: the state saved last is the current one again; nothing changes where none is saved
+-- what `grestore` does: the state saved last is the current one again; nothing changes where none is saved but those
+-- that are left alone
 abbrev pub restored : GfxValue → GfxValue
-restored g = back_to g g.saved
+restored g = if nat_lt g.floor (length g.saved) then back_to g g.saved else g
 
--- the state saved first, which is the last of the list
-abbrev pub first_saved : List StateValue → Option StateValue
-first_saved saved = slice_get (reverse saved) 0
+-- of the saved states, the last one saved first, the one that was saved first above so many others
+abbrev pub first_above : ℕ → List StateValue → Option StateValue
+first_above floor saved = slice_get (reverse saved) floor
 
--- the state saved first, alone
-abbrev pub only_first : List StateValue → List StateValue
-only_first saved = take 1 (reverse saved)
+-- the saved states up to that one, which is the last of them saved
+abbrev pub up_to_first_above : ℕ → List StateValue → List StateValue
+up_to_first_above floor saved = reverse (take (floor + 1) (reverse saved))
 
--- back to the state saved first, which stays as the only one saved; nothing where none is saved
+-- back to a saved state, which stays saved, with those saved before it; nothing where there is none
 abbrev pub back_to_first : GfxValue → Option StateValue → GfxValue
 back_to_first g None = g
-back_to_first g (Some state) = record g { state = state; saved = only_first g.saved }
+back_to_first g (Some state) = record g { state = state; saved = up_to_first_above g.floor g.saved }
 
--- what `grestoreall` does: the state saved first is the current one again, and stays saved alone
+-- what `grestoreall` does: of the saved states that it doesn't leave alone, the one saved first is the current one
+-- again, and stays the only one saved
 abbrev pub all_restored : GfxValue → GfxValue
-all_restored g = back_to_first g (first_saved g.saved)
+all_restored g = back_to_first g (first_above g.floor g.saved)
 
--- a mark of shapes in the current colour, cut by the current clip
-abbrev pub mark_with : StateValue → Rule → List Shape → MarkValue
-mark_with state rule shapes = record {
+-- a mark of shapes that paints with this, cut by the current clip
+abbrev pub mark_with : StateValue → Rule → List Shape → PaintValue → MarkValue
+mark_with state rule shapes paint = record {
   rule = rule;
   shapes = shapes;
   clip = state.clip;
   clip_number = state.clip_number;
-  paint =
-      Flatly (Plain state.code);
+  paint = paint;
 }
 
--- a mark of rings: one polygon
-abbrev pub mark_of : StateValue → Rule → List (List PointValue) → MarkValue
-mark_of state rule rings = mark_with state rule (Poly rings ∷ [])
+-- with one mark more on the page, cut by the current clip
+abbrev pub with_paint : GfxValue → Rule → List Shape → PaintValue → GfxValue
+with_paint g rule shapes paint = record g { page = with_mark g.page (mark_with g.state rule shapes paint) }
 
--- whether a page has room for one more mark of so many points: at most 1,000,000 marks and 4,194,304 points
-abbrev pub has_room : GfxValue → ℕ → Bool
-has_room g points = nat_lt (length g.marks) 1000000 && nat_le (mark_points g.marks + points) 4194304
+-- the ink of the current colour: its codes as they are, by no source
+abbrev pub ink_of : StateValue → Ink
+ink_of state = Plain state.code
 
--- the page with a mark of rings, where it has room
+-- with one mark more on the page that paints with the current colour, whose ink is chosen here and nowhere else
+abbrev pub added : GfxValue → Rule → List Shape → (Ink → PaintValue) → GfxValue
+added g rule shapes paint = with_paint g rule shapes (paint (ink_of g.state))
+
+-- the page with a mark of rings, one polygon in the current colour, where it has room
 abbrev pub painted : GfxValue → Rule → List (List PointValue) → Option GfxValue
 painted g rule rings =
-    if has_room g (ring_points rings)
-    then Some (record g { marks = g.marks ++ mark_of g.state rule rings ∷ [] })
-    else None
+    if has_room g.page (ring_points rings) then Some (added g rule (Poly rings ∷ []) Flatly) else None
 
 -- the page with one mark more, a polygon of all subpaths, flattened, refused where it has no room; a path without a
 -- point makes no mark; the path is empty then
@@ -272,13 +292,11 @@ filled g rule =
     then option_map (λ page. with_path page no_path) (painted g rule (rings_of (lines_of g.state.path)))
     else Some (with_path g no_path)
 
--- the page with a mark of the shapes of a stroke, if there are any, where it has room
+-- the page with a mark of the shapes of a stroke in the current colour, if there are any, where it has room
 abbrev pub marked : GfxValue → List Shape → Option GfxValue
 marked g [] = Some g
 marked g (shape ∷ rest) =
-    if has_room g (all_points (shape ∷ rest))
-    then Some (record g { marks = g.marks ++ mark_with g.state Nonzero (shape ∷ rest) ∷ [] })
-    else None
+    if has_room g.page (all_points (shape ∷ rest)) then Some (added g Nonzero (shape ∷ rest) Flatly) else None
 
 -- the shapes that a pen paints along lines, where it makes at most 65,536 dashes
 abbrev pub outlined : List PolylineValue → PenValue → Option (List Shape)
@@ -296,6 +314,21 @@ stroked_along g path = option_and_then (marked g) (stroke_of g.state path)
 abbrev pub stroked : GfxValue → Option GfxValue
 stroked g = option_map (λ page. with_path page no_path) (stroked_along g g.state.path)
 
--- the page as it is given: its size and its marks, and no sources
+-- the page with an image, which paints its samples, or with a mask, which paints the current colour; neither has shapes
+abbrev pub with_image : Bool → GfxValue → ImageValue → GfxValue
+with_image false g image = with_paint g Nonzero [] (Pictured image)
+with_image true g image = added g Nonzero [] (Masked image)
+
+-- the page with an image or a mask, where it has room for its samples, those of the rows that are there
+abbrev pub image_marked : GfxValue → ImageValue → Bool → Option GfxValue
+image_marked g image mask =
+    if has_image_room g.page (length image.codes) then Some (with_image mask g image) else None
+
+-- the page as it is given: its size, its marks, and how many sources they go by
 abbrev pub page_of : GfxValue → PageValue
-page_of g = record { width = g.size.width; height = g.size.height; sources = 0; marks = g.marks }
+page_of g = record {
+  width = g.size.width;
+  height = g.size.height;
+  sources = g.page.sources;
+  marks = g.page.marks;
+}

@@ -1,10 +1,7 @@
--- What holds of every graphics state: the page is within its limits, its points are counted, and its marks are plain.
--- Own
+-- What holds of every graphics state: the page's size is within its limits, and clips of one number are one clip. Own
 -- rule: the limits.
-use Rattle.std.specs.Prelude.{◌≡◌, ◌≤◌, ◌*◌, ℕ, List, [], length, All, Option, IfSome}
+use Rattle.std.specs.Prelude.{◌≡◌, ◌≤◌, ◌*◌, ℕ, List, [], All, Option, IfSome}
 use Rattle.page_model.specs.Marking.{RegionValue, MarkValue}
-use Rattle.page_model.specs.Page.{HasKnownSource}
-use Rattle.gfx_state.specs.Points.{mark_points}
 use Rattle.gfx_state.specs.Graphics.{StateValue}
 
 -- a page of at most 16,384 dots a side and 67,108,864 in all, at 1 to 2,400 dots an inch
@@ -14,15 +11,6 @@ pub record IsPageSize (width height res : ℕ) : Type 0 where
   pub dots : width * height ≤ 67108864
   pub res_some : 1 ≤ res
   pub res_most : res ≤ 2400
-
--- what holds of every graphics state: its page's size, at most 1,000,000 marks, none by a source, and their points
--- counted
-pub record IsGfxKept (width height res : ℕ) (marks : List MarkValue) (points : ℕ) : Type 0 where
-  pub size : IsPageSize width height res
-  pub counted : points ≡ mark_points marks
-  pub few_points : points ≤ 4194304
-  pub few_marks : length marks ≤ 1000000
-  pub plain : All (HasKnownSource 0) marks
 
 -- a clip is the one of its number, which is among those given, where it has a number
 abbrev pub IsClipOfNumber : (ℕ → List RegionValue) → ℕ → Option ℕ → List RegionValue → Type 0

@@ -2,17 +2,20 @@
 ghost use Rattle.std.specs.Prelude.{◌≡◌, ◌≤◌, ◌↔◌, ◌∷◌, ◌++◌, [], length, nat_lt, Some, None, OnOk, OnErr, IfOk};
 ghost use Rattle.std.specs.Prelude.{IsErrOf};
 ghost use Rattle.std.specs.Arc.{arc_value};
-ghost use Rattle.gfx_state.specs.Graphics.{clipped, clipped_to, with_clip, with_initial_clip, region_of};
+ghost use Rattle.gfx_state.specs.Graphics.{clipped, clipped_to, with_clip, with_initial_clip, region_of, next_number};
 
 use crate::gfx::Gfx;
 use geo_path::Path;
-use page_model::{Clip, Region, Rule};
+use page_model::{Clip, ClipNumber, Region, Rule};
 use press_fault::{Grow, Mem};
 use std::alloc::Global;
 use std::sync::Arc;
 
 /// The most regions of a clip.
 const REGIONS: usize = 256;
+
+/// The greatest number of a clip.
+const LAST_NUMBER: u32 = 4_294_967_294;
 
 impl Gfx {
     /// Cuts the clip to the path, which stays; refused exactly where the clip has 256 regions.
@@ -53,8 +56,8 @@ impl Gfx {
     fn put_clip(&mut self, clip: Arc<Clip>)
         ensures { self.new ≡ with_clip self.old (arc_value clip) }
     {
-        let number = self.clips.checked_add(1);
-        self.clips = number.unwrap_or(self.clips);
+        let number = next_number(self.clips);
+        self.clips = number.get().unwrap_or(self.clips);
         self.state.put_clip(clip, number);
     }
 
@@ -77,7 +80,18 @@ impl Gfx {
         ensures { self.new ≡ with_initial_clip self.old }
     {
         self.state.clip = None;
-        self.state.clip_number = Some(0);
+        self.state.clip_number = ClipNumber::of(0);
+    }
+}
+
+/// The number of the next clip, where so many were given, if there is one left.
+fn next_number(clips: u32) -> ClipNumber
+    ensures { result ≡ next_number clips }
+{
+    if clips < LAST_NUMBER {
+        ClipNumber::of(clips + 1)
+    } else {
+        ClipNumber::none()
     }
 }
 

@@ -20,7 +20,8 @@ pub enum Space {
 impl Space {
     /// How many components a colour of the space has.
     pub fn channels(self) -> usize
-        ensures { result ≡ channels_of self }
+        ensures value { result ≡ channels_of self }
+        ensures few { result ≤ 4 }
     {
         match self {
             Space::Gray => 1,

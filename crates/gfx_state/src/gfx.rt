@@ -1,16 +1,18 @@
 //! The graphics state with its saved copies, and the page that is painted.
 ghost use Rattle.std.specs.Prelude.{◌≡◌, ◌≤◌, ◌↔◌, ℕ, length, Some, None, OnOk, OnErr, IfOk, IsErrOf};
 ghost use Rattle.gfx_state.specs.Graphics.{opening, default_matrix, resized, saved_state, restored, with_initial};
-ghost use Rattle.gfx_state.specs.Graphics.{all_restored, erased, with_space, with_colour, initial_state, page_of};
+ghost use Rattle.gfx_state.specs.Graphics.{all_restored, erased, with_space, with_colour, with_font, initial_state};
+ghost use Rattle.gfx_state.specs.Graphics.{page_of};
 ghost use Rattle.gfx_state.specs.Keeping.{IsPageSize};
 ghost use Rattle.gfx_state.specs.Colour.{channels_of, gray_of};
 
 use crate::colour::{Space, codes, gray};
+use crate::current_page::CurrentPage;
 use crate::line_style::LineStyle;
 use crate::state::{SAVED, Saved, State};
 use geo_matrix::Matrix;
 use geo_path::Path;
-use page_model::{Clip, Marks, Page};
+use page_model::{Clip, ClipNumber, Page};
 use press_fault::{Code, Grow, Mem};
 use press_nums::{Fix, Wide, fix_small};
 use std::alloc::Global;
@@ -18,7 +20,7 @@ use std::marker::Model;
 use std::mem;
 use std::sync::Arc;
 
-/// The graphics state, its saved copies, and the marks of the page so far.
+/// The graphics state, its saved copies, and the current page.
 #[derive(Drop)]
 pub struct Gfx {
     pub(crate) alloc: Global,
@@ -30,16 +32,18 @@ pub struct Gfx {
     pub(crate) empty_path: Path,
     pub(crate) state: State,
     saved: Saved,
+    /// How many of the first saved states `grestore` and `grestoreall` leave alone: those saved before a
+    /// glyph that is being shown. No glyphs are shown yet, so there are none.
+    floor: u32,
     /// How many clips were given a number.
     pub(crate) clips: u32,
-    pub(crate) marks: Marks,
-    pub(crate) points: u64,
+    pub(crate) page: CurrentPage,
 }
 
 impl Model for Gfx {
     ghost use Rattle.gfx_state.specs.Graphics.{GfxValue, no_path};
     ghost use Rattle.std.specs.Prelude.{◌≡◌, []};
-    ghost use Rattle.gfx_state.specs.Keeping.{IsGfxKept, AreClipsNumbered};
+    ghost use Rattle.gfx_state.specs.Keeping.{IsPageSize, AreClipsNumbered};
 
     ghost Value = { GfxValue };
 
@@ -47,13 +51,14 @@ impl Model for Gfx {
       size = record { width = g.width; height = g.height; res = g.res };
       state = g.state;
       saved = g.saved;
+      floor = g.floor;
       clips = g.clips;
-      marks = g.marks;
+      page = g.page;
     } };
 
-    ghost invariant = { λ g. IsGfxKept g.width g.height g.res g.marks g.points
+    ghost invariant = { λ g. IsPageSize g.width g.height g.res
         × (g.no_clip.value ≡ []) × (g.empty_path ≡ no_path)
-        × AreClipsNumbered g.clips g.state.clip_number g.state.clip g.saved g.marks };
+        × AreClipsNumbered g.clips g.state.clip_number g.state.clip g.saved g.page.marks };
 }
 
 impl Gfx {
@@ -70,27 +75,27 @@ impl Gfx {
             res,
             no_clip,
             empty_path: Path::new(alloc),
-            state: initial(height, res),
+            state: initial(height, res, None),
             saved: Saved::new(alloc),
+            floor: 0,
             clips: 0,
-            marks: Marks::new(alloc),
-            points: 0,
+            page: CurrentPage::blank(alloc),
         })
     }
 
-    /// Sets what `initgraphics` sets. The saved states stay.
+    /// Sets what `initgraphics` sets. The font and the saved states stay.
     pub fn initial(&mut self)
         ensures { self.new ≡ with_initial self.old }
     {
-        self.state = initial(self.height, self.res);
+        let font = self.state.font;
+        self.state = initial(self.height, self.res, font);
     }
 
-    /// Drops the marks of the page.
+    /// Drops the marks of the page, so that all limits of the page count from 0 again.
     pub fn erase(&mut self)
         ensures { self.new ≡ erased self.old }
     {
-        self.marks = Marks::new(self.alloc);
-        self.points = 0;
+        self.page = CurrentPage::blank(self.alloc);
     }
 
     /// Sets the size of the page in dots, drops its marks, and sets what `initgraphics` sets.
@@ -145,6 +150,21 @@ impl Gfx {
         gray(self.state.space, self.state.code)
     }
 
+    /// Sets the font: the number of its dictionary (PostScript Language Reference, third edition, 8.2
+    /// `setfont`).
+    pub fn set_font(&mut self, dict: u32)
+        ensures { self.new ≡ with_font self.old dict }
+    {
+        self.state.font = Some(dict);
+    }
+
+    /// The number of the font's dictionary, `None` where no font was set.
+    pub fn font(&self) -> Option<u32>
+        ensures { result ≡ self.now.state.font }
+    {
+        self.state.font
+    }
+
     /// Saves a copy of the current state, refused exactly where 32 are saved.
     pub fn save(&mut self) -> Result<(), Grow>
         ensures ok { OnOk result (saved_state self.old ≡ Some self.new) }
@@ -159,48 +179,47 @@ impl Gfx {
         Ok(())
     }
 
-    /// Goes back to the state saved last; nothing where none is saved.
+    /// Goes back to the state saved last; nothing where none is saved above those that are left alone.
     pub fn restore(&mut self)
         ensures { self.new ≡ restored self.old }
     {
-        if let Some(state) = self.saved.pop() {
-            self.state = state;
+        if self.saved.len() > self.floor as usize {
+            if let Some(state) = self.saved.pop() {
+                self.state = state;
+            }
         }
     }
 
-    /// Goes back to the state saved first, which stays as the only one saved; nothing where none is saved.
+    /// Goes back to the state saved first above those that are left alone, and keeps it as the last one
+    /// saved; nothing where none is saved above them.
     pub fn restore_all(&mut self) -> Mem<()>
         ensures ok { OnOk result (self.new ≡ all_restored self.old) }
         ensures err { OnErr result (self.new ≡ self.old) }
     {
-        if let Some(state) = self.saved.first()? {
-            self.saved.keep_first();
+        if let Some(state) = self.saved.first_above(self.floor)? {
+            self.saved.keep_up_to_first_above(self.floor);
             self.state = state;
         }
         Ok(())
     }
 
-    /// The page that was painted. The marks go with it.
+    /// The page that was painted. The marks go with it, and it goes by no source, as none is built.
+    #[tactic(auto, using(crate::proofs::ClipLemmas::marks_numbered))]
     pub fn take_page(&mut self) -> Page
         ensures page { result ≡ page_of self.old }
+        ensures plain { result.sources ≡ 0 }
         ensures rest { self.new ≡ erased self.old }
     {
-        let marks = mem::replace(&mut self.marks, Marks::new(self.alloc));
-        self.points = 0;
-        Page {
-            width: self.width,
-            height: self.height,
-            sources: 0,
-            marks,
-        }
+        let page = mem::replace(&mut self.page, CurrentPage::blank(self.alloc));
+        page.into_page(self.width, self.height)
     }
 }
 
-/// What `initgraphics` sets.
-fn initial(height: u32, res: u32) -> State
+/// What `initgraphics` sets, with the font that it leaves.
+fn initial(height: u32, res: u32, font: Option<u32>) -> State
     requires height { height ≤ 16384 }
     requires res { res ≤ 2400 }
-    ensures { (width : ℕ) → result ≡ initial_state (record { width = width; height = height; res = res }) }
+    ensures { (width : ℕ) → result ≡ initial_state (record { width = width; height = height; res = res }) font }
 {
     State {
         matrix: default_matrix(height, res),
@@ -208,8 +227,9 @@ fn initial(height: u32, res: u32) -> State
         code: Space::Gray.first_colour(),
         path: None,
         clip: None,
-        clip_number: Some(0),
+        clip_number: ClipNumber::of(0),
         line: LineStyle::initial(),
+        font,
     }
 }
 

@@ -9,6 +9,7 @@
 
 mod clips;
 mod colour;
+mod current_page;
 mod gfx;
 mod line_style;
 mod lines;

@@ -1,21 +1,21 @@
 //! Marks that are added to the page.
-ghost use Rattle.std.specs.Prelude.{◌≡◌, ◌↔◌, ◌∷◌, ◌++◌, true, Some, None, OnOk, OnErr, IfOk, IsErrOf, []};
+ghost use Rattle.std.specs.Prelude.{◌≡◌, ◌↔◌, ◌×◌, true, Some, None, OnOk, OnErr, IfOk, IsErrOf, IsTrue, [], length};
 ghost use Rattle.std.specs.Arc.{arc_value};
-ghost use Rattle.gfx_state.specs.Graphics.{has_room, painted, filled, marked, mark_with};
-ghost use Rattle.gfx_state.specs.Points.{ring_points, all_points};
+ghost use Rattle.page_model.specs.Image.{ImageValue};
+ghost use Rattle.page_model.specs.Marking.{painting_of, IsSuited, Flatly};
+ghost use Rattle.page_model.specs.Page.{IsNumbered, painting_source};
+ghost use Rattle.gfx_state.specs.CurrentPage.{has_room, has_sample_room, has_image_room};
+ghost use Rattle.gfx_state.specs.Graphics.{painted, filled, marked, mark_with, ink_of, added, with_paint, image_marked};
+ghost use Rattle.gfx_state.specs.Graphics.{with_image};
+ghost use Rattle.gfx_state.specs.Points.{ring_points, all_points, paint_samples};
 
+use crate::current_page::POINTS;
 use crate::gfx::Gfx;
 use crate::points::{points_up_to, shape_points_up_to};
 use crate::state::State;
-use page_model::{Clip, Ink, Mark, Paint, Rings, Rule, Shape, Shapes};
+use page_model::{Clip, Image, Ink, Mark, Paint, Rings, Rule, Shape, Shapes};
 use press_fault::{Grow, Mem};
 use std::sync::Arc;
-
-/// The most marks of a page.
-const MARKS: usize = 1_000_000;
-
-/// The most points of a page's marks.
-const POINTS: u64 = 4_194_304;
 
 impl Gfx {
     /// Adds a mark of rings in the current colour, refused exactly where the page has no room for
@@ -31,7 +31,7 @@ impl Gfx {
         if !self.has_room(points) {
             return Err(Grow::LimitCheck);
         }
-        self.add_mark(rule, rings, points)?;
+        self.add_rings(rule, rings, points)?;
         Ok(())
     }
 
@@ -51,7 +51,7 @@ impl Gfx {
                 return Err(Grow::LimitCheck);
             }
             let rings = self.path().flatten()?.into_rings(self.alloc)?;
-            self.add_mark(rule, rings, points)?;
+            self.add_rings(rule, rings, points)?;
         }
         self.new_path();
         Ok(())
@@ -60,9 +60,27 @@ impl Gfx {
     /// Whether the page has room for one more mark of so many points: it has fewer than 1,000,000
     /// marks, and would have at most 4,194,304 points. Own rule: both limits.
     pub fn has_room(&self, points: u64) -> bool
-        ensures { result ≡ has_room self.now points }
+        ensures { result ≡ has_room self.now.page points }
     {
-        self.marks.items().len() < MARKS && points <= POINTS - self.points
+        self.page.has_room(points)
+    }
+
+    /// Whether the page has room for so many samples more, one for each channel of each place: it would
+    /// have at most 67,108,864. An operator asks so of an image's whole height before it reads any
+    /// of it. Own rule: the limit.
+    pub fn has_sample_room(&self, samples: u64) -> bool
+        ensures { result ≡ has_sample_room self.now.page samples }
+    {
+        self.page.has_sample_room(samples)
+    }
+
+    /// Whether the page has room for one more image or mask of so many samples, those of the rows that
+    /// came: it has fewer than 1,000,000 marks, and would have at most 67,108,864 samples. Own rule:
+    /// both limits.
+    pub fn has_image_room(&self, samples: u64) -> bool
+        ensures { result ≡ has_image_room self.now.page samples }
+    {
+        self.page.has_image_room(samples)
     }
 
     /// Adds a mark of the shapes of a stroke, if there are any, refused exactly where the page has
@@ -85,10 +103,42 @@ impl Gfx {
         Ok(())
     }
 
+    /// Adds an image, or a mask in the current colour, cut by the current clip; marks share it.
+    ///
+    /// It is refused exactly where the page has no room for its samples, and a refusal leaves all as
+    /// it was. The source of an image is one that the page counts; a mask has one channel and no
+    /// source (PostScript Language Reference, third edition, 4.10 Images, 8.2 `image`, `imagemask`).
+    pub fn mark_image(&mut self, image: Arc<Image>, mask: bool) -> Result<(), Grow>
+        requires source { IsNumbered self.old.page.sources (arc_value image).source }
+        requires mask { IsTrue mask → ((arc_value image).channels ≡ 1) × ((arc_value image).source ≡ None) }
+        ensures ok { OnOk result (image_marked self.old (arc_value image) mask ≡ Some self.new) }
+        ensures limit { IsErrOf result Grow.LimitCheck ↔ (image_marked self.old (arc_value image) mask ≡ None) }
+        ensures err { OnErr result (self.new ≡ self.old) }
+    {
+        let samples = image.codes.items().len() as u64;
+        if !self.has_image_room(samples) {
+            return Err(Grow::LimitCheck);
+        }
+        if mask {
+            let ink = self.ink();
+            self.add_image(Paint::Mask(image, ink), samples)?;
+            return Ok(());
+        }
+        self.add_image(Paint::Image(image), samples)?;
+        Ok(())
+    }
+
+    /// The ink of the current colour.
+    fn ink(&self) -> Ink
+        ensures { result ≡ ink_of self.now.state }
+    {
+        Ink::Plain(self.state.code)
+    }
+
     /// Adds a mark of rings of so many points, for which there is room.
-    fn add_mark(&mut self, rule: Rule, rings: Rings, points: u64) -> Mem<()>
+    fn add_rings(&mut self, rule: Rule, rings: Rings, points: u64) -> Mem<()>
         requires points { points ≡ ring_points rings }
-        requires room { has_room self.old points ≡ true }
+        requires room { has_room self.old.page points ≡ true }
         ensures ok { OnOk result (painted self.old rule rings ≡ Some self.new) }
         ensures err { OnErr result (self.new ≡ self.old) }
     {
@@ -97,36 +147,51 @@ impl Gfx {
         self.add_shapes(rule, shapes, points)
     }
 
-    /// Adds a mark of shapes of so many points, for which there is room.
+    /// Adds a mark of shapes of so many points in the current colour, for which there is room.
     fn add_shapes(&mut self, rule: Rule, shapes: Shapes, points: u64) -> Mem<()>
         requires points { points ≡ all_points shapes }
-        requires room { has_room self.old points ≡ true }
-        ensures ok { OnOk result (self.new ≡
-            record self.old { marks = self.old.marks ++ mark_with self.old.state rule shapes ∷ [] }) }
+        requires room { has_room self.old.page points ≡ true }
+        ensures ok { OnOk result (self.new ≡ added self.old rule shapes Flatly) }
         ensures err { OnErr result (self.new ≡ self.old) }
     {
-        let mark = flat_mark(
-            rule,
-            Arc::new(self.alloc, shapes)?,
-            &self.state,
-            &self.no_clip,
-        )?;
-        self.marks.push(mark)?;
-        self.points += points;
-        Ok(())
+        let shapes = Arc::new(self.alloc, shapes)?;
+        let paint = Paint::Flat(self.ink());
+        let mark = cut_mark(rule, shapes, paint, &self.state, &self.no_clip)?;
+        self.page.push_shapes(mark, points)
+    }
+
+    /// Adds the mark of an image or a mask of so many samples, for which there is room.
+    fn add_image(&mut self, paint: Paint, samples: u64) -> Mem<()>
+        requires suited { IsSuited [] (painting_of paint) }
+        requires samples { samples ≡ paint_samples (painting_of paint) }
+        requires source { IsNumbered self.old.page.sources (painting_source (painting_of paint)) }
+        requires room { has_image_room self.old.page samples ≡ true }
+        ensures ok { OnOk result (self.new ≡ with_paint self.old Rule.Nonzero [] (painting_of paint)) }
+        ensures err { OnErr result (self.new ≡ self.old) }
+    {
+        let shapes = Arc::new(self.alloc, Shapes::new(self.alloc))?;
+        let mark = cut_mark(Rule::Nonzero, shapes, paint, &self.state, &self.no_clip)?;
+        self.page.push_image(mark, samples)
     }
 }
 
-/// A mark of shapes in a state's colour, cut by its clip.
-fn flat_mark(rule: Rule, shapes: Arc<Shapes>, state: &State, no_clip: &Arc<Clip>) -> Mem<Mark>
-    requires { arc_value no_clip.now ≡ [] }
-    ensures { IfOk result (λ mark. mark ≡ mark_with state.now rule (arc_value shapes)) }
+/// A mark of shapes that paints with this, cut by a state's clip.
+fn cut_mark(
+    rule: Rule,
+    shapes: Arc<Shapes>,
+    paint: Paint,
+    state: &State,
+    no_clip: &Arc<Clip>,
+) -> Mem<Mark>
+    requires none { arc_value no_clip.now ≡ [] }
+    requires suited { IsSuited (arc_value shapes) (painting_of paint) }
+    ensures { IfOk result (λ mark. mark ≡ mark_with state.now rule (arc_value shapes) (painting_of paint)) }
 {
     Ok(Mark {
         rule,
+        clip_number: state.clip_number,
         shapes,
         clip: state.clip_or(no_clip)?,
-        clip_number: state.clip_number,
-        paint: Paint::Flat(Ink::Plain(state.code)),
+        paint,
     })
 }

@@ -2,14 +2,14 @@
 ghost use Rattle.std.specs.Prelude.{◌≡◌, ◌∷◌, [], IfOk, OnOk, OnErr, MatchOption, length};
 ghost use Rattle.std.specs.Arc.{arc_value};
 ghost use Rattle.gfx_state.specs.Code.Shared.{regions_of, path_of};
-ghost use Rattle.gfx_state.specs.Graphics.{no_path, first_saved, only_first};
+ghost use Rattle.gfx_state.specs.Graphics.{no_path, first_above, up_to_first_above};
 
 use crate::clips::copy_clip;
 use crate::colour::Space;
 use crate::line_style::LineStyle;
 use geo_matrix::Matrix;
 use geo_path::Path;
-use page_model::Clip;
+use page_model::{Clip, ClipNumber};
 use press_fault::{Code, Mem};
 use std::alloc::Global;
 use std::marker::Model;
@@ -28,8 +28,10 @@ pub(crate) struct State {
     /// `None` where the clip has no regions, so that setting it takes no memory.
     pub(crate) clip: Option<Arc<Clip>>,
     /// States and marks that have the same number have the same clip.
-    pub(crate) clip_number: Option<u32>,
+    pub(crate) clip_number: ClipNumber,
     pub(crate) line: LineStyle,
+    /// The number of the font's dictionary.
+    pub(crate) font: Option<u32>,
 }
 
 impl Model for State {
@@ -47,6 +49,7 @@ impl Model for State {
           regions_of s.clip;
       clip_number = s.clip_number;
       line = s.line;
+      font = s.font;
     } };
 }
 
@@ -62,6 +65,7 @@ impl State {
             clip: shared(&self.clip)?,
             clip_number: self.clip_number,
             line: self.line.copy()?,
+            font: self.font,
         })
     }
 
@@ -97,7 +101,7 @@ impl State {
         }
     }
 
-    pub(crate) fn put_clip(&mut self, clip: Arc<Clip>, number: Option<u32>)
+    pub(crate) fn put_clip(&mut self, clip: Arc<Clip>, number: ClipNumber)
         ensures { self.new ≡ record self.old { clip = arc_value clip; clip_number = number } }
     {
         self.clip = Some(clip);
@@ -184,20 +188,20 @@ impl Saved {
         self.states.pop()
     }
 
-    /// A copy of the state saved first.
-    pub(crate) fn first(&self) -> Mem<Option<State>>
-        ensures { IfOk result (λ first. first ≡ first_saved self.now) }
+    /// A copy of the state that was saved first above so many others.
+    pub(crate) fn first_above(&self, floor: u32) -> Mem<Option<State>>
+        ensures { IfOk result (λ first. first ≡ first_above floor self.now) }
     {
-        match self.states.first() {
+        match self.states.get(floor as usize) {
             Some(state) => Ok(Some(state.copy()?)),
             None => Ok(None),
         }
     }
 
-    /// Keeps the state saved first alone.
-    pub(crate) fn keep_first(&mut self)
-        ensures { self.new ≡ only_first self.old }
+    /// Keeps the states up to the one that was saved first above so many others.
+    pub(crate) fn keep_up_to_first_above(&mut self, floor: u32)
+        ensures { self.new ≡ up_to_first_above floor self.old }
     {
-        self.states.truncate(1);
+        self.states.truncate(floor as usize + 1);
     }
 }

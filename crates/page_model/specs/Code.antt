@@ -1,1 +1,2 @@
+pub mod ClipNumber
 pub mod Extent

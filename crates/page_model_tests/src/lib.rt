@@ -9,8 +9,8 @@ ghost use Rattle.page_model.specs.Page.{HasKnownSource};
 ghost use Rattle.page_model.specs.Cover.{HasChannels};
 
 use page_model::{
-    Bytes, Clip, Disc, Image, ImageMap, Ink, Mark, Marks, Page, Paint, Region, Ring, Rings, Rule,
-    Shape, Shapes, Table, plain_dot, plain_rule, point, reach,
+    Bytes, Clip, ClipNumber, Disc, Image, ImageMap, Ink, Mark, Marks, Page, Paint, Region, Ring,
+    Rings, Rule, Shape, Shapes, Table, plain_dot, plain_rule, point, reach,
 };
 use press_fault::{Code, Mem, Point};
 use press_nums::Wide;
@@ -95,7 +95,7 @@ fn filled(alloc: Global, rule: Rule, shape: Shape, clip: Clip, ink: Ink) -> Mem<
         rule,
         shapes: Arc::new(alloc, shapes)?,
         clip: Arc::new(alloc, clip)?,
-        clip_number: None,
+        clip_number: ClipNumber::none(),
         paint: Paint::Flat(ink),
     })
 }
@@ -289,7 +289,7 @@ fn placed(alloc: Global, paint: Paint) -> Mem<Mark>
         rule: Rule::Nonzero,
         shapes: Arc::new(alloc, Shapes::new(alloc))?,
         clip: Arc::new(alloc, Clip::new(alloc))?,
-        clip_number: None,
+        clip_number: ClipNumber::none(),
         paint,
     })
 }
@@ -515,5 +515,12 @@ fn bytes_keep_their_order(rt: HostRuntime) -> Result<(), Fail> {
         two_bytes(rt.alloc())?.into_vec().as_slice(),
         [1, 2].as_slice()
     );
+    Ok(())
+}
+
+#[test]
+fn a_clip_has_a_number_or_none(rt: HostRuntime) -> Result<(), Fail> {
+    let numbers = (ClipNumber::of(7).get(), ClipNumber::none().get());
+    assert_eq!(rt; numbers, (Some(7), None));
     Ok(())
 }

@@ -2,3 +2,4 @@ pub mod Beside
 pub mod PathFaults
 mod Strokes
 mod Folding
+mod TopNumbers

@@ -1,7 +1,7 @@
--- The points that operators take from the operands, in user space (PostScript Language Reference, third edition, 4.4
--- Path
--- Construction): enough of them, then their types. Own rule: the order of these refusals.
-use Rattle.std.specs.Prelude.{ℤ, List, [], ◌∷◌, Option, Some, None, Result, Ok, Err}
+-- The numbers and points that operators take from the operands, points in user space (PostScript Language Reference,
+-- third edition, 4.4 Path Construction): enough of them, then their types. Own rule: the order of these refusals.
+use Rattle.std.specs.Prelude.{ℕ, ℤ, List, [], ◌∷◌, length, take, reverse, nat_lt, Option, Some, None, Result, Ok, Err}
+use Rattle.std.specs.Prelude.{if◌then◌else◌}
 use Rattle.press_fault.specs.declared.names.PsName.{PsName}
 use Rattle.press_fault.specs.declared.names.PsName.TheVariants.{StackUnderflow, TypeCheck}
 use Rattle.ps_store.specs.declared.obj.Obj.{Obj}
@@ -17,6 +17,22 @@ number_or_type None = Err TypeCheck
 abbrev pub one_number : List Obj → Result ℤ PsName
 one_number (n ∷ rest) = number_or_type (raw_of n)
 one_number [] = Err StackUnderflow
+
+-- a number before others, where it is one, else typecheck
+abbrev pub number_before : Option ℤ → Result (List ℤ) PsName → Result (List ℤ) PsName
+number_before (Some n) (Ok rest) = Ok (n ∷ rest)
+number_before (Some n) (Err name) = Err name
+number_before None rest = Err TypeCheck
+
+-- the numbers that objects are, else typecheck where one of them is none
+abbrev pub numbers_or_type : List Obj → Result (List ℤ) PsName
+numbers_or_type [] = Ok []
+numbers_or_type (o ∷ rest) = number_before (raw_of o) (numbers_or_type rest)
+
+-- the numbers that so many top operands are, the top one last, else stackunderflow or typecheck
+abbrev pub top_numbers : ℕ → List Obj → Result (List ℤ) PsName
+top_numbers count operands =
+    if nat_lt (length operands) count then Err StackUnderflow else numbers_or_type (reverse (take count operands))
 
 -- the point of two numbers, else typecheck
 abbrev pub point_or_type : Option ℤ → Option ℤ → Result RealPointValue PsName

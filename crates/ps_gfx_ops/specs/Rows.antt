@@ -9,11 +9,12 @@ use Rattle.ps_store.specs.declared.oper.GfxOp.TheVariants as OnGfx
 use Rattle.ps_store.specs.Outcome.{Outcome, Goes}
 use Rattle.ps_store.specs.Store.{StoreValue}
 use Rattle.geo_path.specs.Path.{closed}
+use Rattle.gfx_state.specs.declared.colour.Space.TheVariants.{Gray, Rgb, Cmyk}
 use Rattle.gfx_state.specs.Graphics.{GfxValue, erased, restored, all_restored, with_initial, with_initial_clip}
 use Rattle.gfx_state.specs.Graphics.{with_default_matrix, with_path, no_path}
 use Rattle.ps_gfx_ops.specs.Scene.{GraphicsScene, beside}
 use Rattle.ps_gfx_ops.specs.States.{gsave_row}
-use Rattle.ps_gfx_ops.specs.Colours.{currentgray_row, setgray_row, setrgbcolor_row, setcmykcolor_row}
+use Rattle.ps_gfx_ops.specs.Colours.{currentgray_row, colour_row}
 use Rattle.ps_gfx_ops.specs.Lines.{setlinewidth_row, setmiterlimit_row, setlinecap_row, setlinejoin_row, setdash_row}
 use Rattle.ps_gfx_ops.specs.Lines.{currentlinewidth_row}
 use Rattle.ps_gfx_ops.specs.Matrices.{matrix_row, currentmatrix_row, setmatrix_row, concat_row, translate_row}
@@ -41,9 +42,9 @@ gfx_row OnGfx.Setlinejoin operands s g = beside s (setlinejoin_row operands g)
 gfx_row OnGfx.Setdash operands s g = beside s (setdash_row operands s g)
 gfx_row OnGfx.Currentlinewidth operands s g = beside s (currentlinewidth_row operands g)
 gfx_row OnGfx.Currentgray operands s g = beside s (currentgray_row operands g)
-gfx_row OnGfx.Setgray operands s g = beside s (setgray_row operands g)
-gfx_row OnGfx.Setrgbcolor operands s g = beside s (setrgbcolor_row operands g)
-gfx_row OnGfx.Setcmykcolor operands s g = beside s (setcmykcolor_row operands g)
+gfx_row OnGfx.Setgray operands s g = beside s (colour_row Gray operands g)
+gfx_row OnGfx.Setrgbcolor operands s g = beside s (colour_row Rgb operands g)
+gfx_row OnGfx.Setcmykcolor operands s g = beside s (colour_row Cmyk operands g)
 gfx_row OnGfx.Matrix operands s g = matrix_row operands s g
 gfx_row OnGfx.Currentmatrix operands s g = currentmatrix_row operands s g
 gfx_row OnGfx.Setmatrix operands s g = beside s (setmatrix_row operands s g)

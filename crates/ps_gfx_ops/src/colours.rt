@@ -1,11 +1,16 @@
 //! Operators on the current colour.
-ghost use Rattle.std.specs.Prelude.{◌≡◌, ◌≢◌, Err};
-ghost use Rattle.ps_gfx_ops.specs.Colours.{currentgray_row, setgray_row, setrgbcolor_row, setcmykcolor_row};
+ghost use Rattle.std.specs.Prelude.{◌≡◌, ◌≢◌, ◌≤◌, ◌<◌, ◌∷◌, ◌++◌, [], length, slice_get, Err, OnOk, IfOk};
+ghost use Rattle.std.specs.Option.{option_and_then};
+ghost use Rattle.ps_store.specs.Numbers.{raw_of};
+ghost use Rattle.ps_gfx_ops.specs.Colours.{colour_row, currentgray_row};
+ghost use Rattle.ps_gfx_ops.specs.Points.{top_numbers};
 ghost use Rattle.ps_gfx_ops.specs.Calls.{GraphicsAnswers};
 
 use gfx_state::{Gfx, Space};
 use press_fault::PsName;
+use press_nums::Fix;
 use ps_store::{Obj, OpFault, Stack, number};
+use std::marker::Model;
 
 /// `currentgray`: the gray of the current colour.
 pub(crate) fn currentgray(stack: &mut Stack, gfx: &mut Gfx) -> Result<(), OpFault>
@@ -17,61 +22,90 @@ pub(crate) fn currentgray(stack: &mut Stack, gfx: &mut Gfx) -> Result<(), OpFaul
     Ok(())
 }
 
-/// `setgray`: DeviceGray and a colour of it.
-pub(crate) fn setgray(stack: &mut Stack, gfx: &mut Gfx) -> Result<(), OpFault>
-    ensures answers { GraphicsAnswers (setgray_row stack.old gfx.old)
+/// `setgray`, `setrgbcolor` and `setcmykcolor`: their space and a colour of it.
+pub(crate) fn set_colour(space: Space, stack: &mut Stack, gfx: &mut Gfx) -> Result<(), OpFault>
+    ensures answers { GraphicsAnswers (colour_row space stack.old gfx.old)
         result stack.old gfx.old stack.new gfx.new }
     ensures never { result ≢ Err OpFault.NoMemory }
 {
-    let Some(gray) = stack.top() else {
-        return Err(OpFault::Ps(PsName::StackUnderflow));
-    };
-    let Some(gray) = number(gray) else {
-        return Err(OpFault::Ps(PsName::TypeCheck));
-    };
-    gfx.set_space(Space::Gray);
-    gfx.set_color(&[gray]);
-    stack.drop_top(1);
+    let count = space.channels();
+    let components = top_numbers(count, stack)?;
+    gfx.set_space(space);
+    gfx.set_color(components.items());
+    stack.drop_top(count);
     Ok(())
 }
 
-/// `setrgbcolor`: DeviceRGB and a colour of it.
-pub(crate) fn setrgbcolor(stack: &mut Stack, gfx: &mut Gfx) -> Result<(), OpFault>
-    ensures answers { GraphicsAnswers (setrgbcolor_row stack.old gfx.old)
-        result stack.old gfx.old stack.new gfx.new }
-    ensures never { result ≢ Err OpFault.NoMemory }
+/// The numbers that so many top operands are, the top one last.
+fn top_numbers(count: usize, stack: &Stack) -> Result<Components, PsName>
+    requires { count ≤ 4 }
+    ensures value { result ≡ top_numbers count stack.now }
+    ensures each { IfOk result (λ numbers. length numbers ≡ count) }
+    ensures enough { OnOk result (count ≤ length stack.now) }
 {
-    let Some((blue, green, red)) = stack.top_three() else {
-        return Err(OpFault::Ps(PsName::StackUnderflow));
-    };
-    let (Some(red), Some(green), Some(blue)) = (number(red), number(green), number(blue)) else {
-        return Err(OpFault::Ps(PsName::TypeCheck));
-    };
-    gfx.set_space(Space::Rgb);
-    gfx.set_color(&[red, green, blue]);
-    stack.drop_top(3);
-    Ok(())
+    if stack.len() < count {
+        return Err(PsName::StackUnderflow);
+    }
+    let mut numbers = Components::new();
+    let mut left = count;
+    while left > 0 {
+        left -= 1;
+        match number_at(stack, left) {
+            Some(n) => numbers.push(n),
+            None => return Err(PsName::TypeCheck),
+        }
+    }
+    Ok(numbers)
 }
 
-/// `setcmykcolor`: DeviceCMYK and a colour of it.
-pub(crate) fn setcmykcolor(stack: &mut Stack, gfx: &mut Gfx) -> Result<(), OpFault>
-    ensures answers { GraphicsAnswers (setcmykcolor_row stack.old gfx.old)
-        result stack.old gfx.old stack.new gfx.new }
-    ensures never { result ≢ Err OpFault.NoMemory }
+/// The number that the operand below so many others is.
+fn number_at(stack: &Stack, depth: usize) -> Option<Fix>
+    ensures { result ≡ option_and_then raw_of (slice_get stack.now depth) }
 {
-    let Some((black, yellow, magenta, cyan)) = stack.top_four() else {
-        return Err(OpFault::Ps(PsName::StackUnderflow));
-    };
-    let (Some(cyan), Some(magenta), Some(yellow), Some(black)) = (
-        number(cyan),
-        number(magenta),
-        number(yellow),
-        number(black),
-    ) else {
-        return Err(OpFault::Ps(PsName::TypeCheck));
-    };
-    gfx.set_space(Space::Cmyk);
-    gfx.set_color(&[cyan, magenta, yellow, black]);
-    stack.drop_top(4);
-    Ok(())
+    number(stack.at(depth)?)
+}
+
+/// The components of a colour, four at most. Contracts see them as a list.
+#[derive(Drop)]
+struct Components {
+    numbers: [Fix; 4],
+    count: usize,
+}
+
+impl Model for Components {
+    ghost use Rattle.std.specs.Prelude.{◌≤◌, ℤ, List, take};
+
+    ghost Value = { List ℤ };
+
+    ghost view = { λ c. take c.count c.numbers };
+
+    ghost invariant = { λ c. c.count ≤ 4 };
+}
+
+impl Components {
+    /// None yet.
+    fn new() -> Components
+        ensures { result ≡ [] }
+    {
+        Components {
+            numbers: [Fix::of_int(0); 4],
+            count: 0,
+        }
+    }
+
+    /// Adds one at the end.
+    fn push(&mut self, number: Fix)
+        requires { length self.old < 4 }
+        ensures { self.new ≡ self.old ++ number ∷ [] }
+    {
+        self.numbers[self.count] = number;
+        self.count += 1;
+    }
+
+    /// The components, in order.
+    fn items(&self) -> &[Fix]
+        ensures { result.now ≡ self.now }
+    {
+        self.numbers.split_at(self.count).0
+    }
 }

@@ -4,7 +4,7 @@ ghost use Rattle.ps_store.specs.Outcome.{TellsRefusal};
 ghost use Rattle.ps_gfx_ops.specs.Rows.{gfx_row, row_before_memory, takes_memory};
 ghost use Rattle.ps_gfx_ops.specs.Calls.{SceneAnswers};
 
-use crate::colours::{currentgray, setcmykcolor, setgray, setrgbcolor};
+use crate::colours::{currentgray, set_colour};
 use crate::devices::setpagedevice;
 use crate::lines::{
     currentlinewidth, setdash, setlinecap, setlinejoin, setlinewidth, setmiterlimit,
@@ -18,7 +18,7 @@ use crate::paths::{
 };
 use crate::rectangles::{rectclip, rectfill, rectstroke};
 use crate::states::{grestoreall, gsave};
-use gfx_state::Gfx;
+use gfx_state::{Gfx, Space};
 use page_model::Rule;
 use ps_store::{GfxOp, OpFault, Stack, Store};
 use std::alloc::Global;
@@ -59,9 +59,9 @@ pub fn run_gfx(
         GfxOp::Setdash => setdash(alloc, stack, store, gfx),
         GfxOp::Currentlinewidth => currentlinewidth(stack, gfx),
         GfxOp::Currentgray => currentgray(stack, gfx),
-        GfxOp::Setgray => setgray(stack, gfx),
-        GfxOp::Setrgbcolor => setrgbcolor(stack, gfx),
-        GfxOp::Setcmykcolor => setcmykcolor(stack, gfx),
+        GfxOp::Setgray => set_colour(Space::Gray, stack, gfx),
+        GfxOp::Setrgbcolor => set_colour(Space::Rgb, stack, gfx),
+        GfxOp::Setcmykcolor => set_colour(Space::Cmyk, stack, gfx),
         GfxOp::Matrix => matrix(stack, store),
         GfxOp::Currentmatrix => currentmatrix(stack, store, gfx),
         GfxOp::Setmatrix => setmatrix(stack, store, gfx),

@@ -20,12 +20,15 @@ use Rattle.ps_store.specs.Numbers.{raw_of}
 use Rattle.ps_store.specs.Outcome.{Outcome, Goes, Refuses, or_range, or_limit, or_undefined_result, or_refusal}
 use Rattle.ps_store.specs.Store.{StoreValue}
 use Rattle.gfx_state.specs.declared.line_style.DashFault.{DashFault}
+use Rattle.gfx_state.specs.declared.colour.Space.{Space}
+use Rattle.gfx_state.specs.Colour.{channels_of}
 use Rattle.gfx_state.specs.Lines.{dash_fault}
 use Rattle.gfx_state.specs.Graphics.{GfxValue, saved_state, concatenated, translation, scaling, filled, stroked}
 use Rattle.gfx_state.specs.Graphics.{clipped, painted, stroked_along, clipped_to, with_width, with_cap, with_join}
 use Rattle.gfx_state.specs.Graphics.{with_miter}
 use Rattle.ps_gfx_ops.specs.Easel.{OperandsAndGraphics}
-use Rattle.ps_gfx_ops.specs.Points.{one_number, one_point, three_points}
+use Rattle.ps_gfx_ops.specs.Points.{one_number, one_point, three_points, top_numbers}
+use Rattle.ps_gfx_ops.specs.Colours.{colour_row}
 use Rattle.ps_gfx_ops.specs.States.{gsave_row}
 use Rattle.ps_gfx_ops.specs.Matrices.{one_matrix, setmatrix_row, concat_row, translate_row, scale_row, rotate_row}
 use Rattle.ps_gfx_ops.specs.Matrices.{in_place_of_two, transform_row, itransform_row}
@@ -88,6 +91,11 @@ after_drawn P (Err fault) rest g h = tt
 -- what `gsave` leaves of the operands
 pub after_gsave : (P : List Obj → Type 0) (os : List Obj) (g : GfxValue) → Dropped P os → After P (gsave_row os g)
 after_gsave P os g h = by_limit P (saved_state g) _ (λ now. h 0)
+
+-- what `setgray` and the like leave of the operands
+pub after_colour : (P : List Obj → Type 0) (space : Space) (os : List Obj) (g : GfxValue) → Dropped P os →
+    After P (colour_row space os g)
+after_colour P space os g h = by_refusal P (top_numbers (channels_of space) os) _ (λ values. h (channels_of space))
 
 -- what `moveto` leaves of the operands
 pub after_moveto : (P : List Obj → Type 0) (os : List Obj) (g : GfxValue) → Dropped P os → After P (moveto_row os g)

@@ -1,5 +1,5 @@
 -- The graphics operators leave at most 500 operands.
-use Rattle.std.specs.Prelude.{ℤ, nat_lt, true, false}
+use Rattle.std.specs.Prelude.{nat_lt, true, false}
 use Rattle.std.proofs.Common.{◌≤◌, ◌<◌, List, [], ◌∷◌, length, Option, Some, None, arith}
 use Rattle.std.proofs.lemmas.Bool.{ltb-true}
 use Rattle.std.proofs.lemmas.List.{length-drop}
@@ -8,17 +8,16 @@ use Rattle.ps_store.specs.declared.obj.Obj.TheVariants.{Array, Real}
 use Rattle.ps_store.specs.declared.obj.Part.{Part}
 use Rattle.ps_store.specs.declared.oper.GfxOp.{GfxOp}
 use Rattle.ps_store.specs.declared.oper.GfxOp.TheVariants as OnGfx
-use Rattle.ps_store.specs.Numbers.{raw_of}
 use Rattle.ps_store.specs.Outcome.{Outcome, Goes, Refuses, or_limit}
 use Rattle.ps_store.specs.Store.{StoreValue, with_array_of}
 use Rattle.page_model.specs.declared.shape.Rule.TheVariants.{Nonzero, EvenOdd}
+use Rattle.gfx_state.specs.declared.colour.Space.TheVariants.{Gray, Rgb, Cmyk}
 use Rattle.gfx_state.specs.Colour.{gray_of}
 use Rattle.gfx_state.specs.Graphics.{GfxValue}
 use Rattle.geo_matrix.specs.Affine.{identity}
 use Rattle.ps_gfx_ops.specs.Easel.{OperandsAndGraphics}
 use Rattle.ps_gfx_ops.specs.Scene.{GraphicsScene, beside}
-use Rattle.ps_gfx_ops.specs.Colours.{one_component, setgray_row, three_components, setrgbcolor_row, four_components}
-use Rattle.ps_gfx_ops.specs.Colours.{setcmykcolor_row, on_easel}
+use Rattle.ps_gfx_ops.specs.Colours.{on_easel}
 use Rattle.ps_gfx_ops.specs.Matrices.{elements_of, matrix_row, currentmatrix_row}
 use Rattle.ps_gfx_ops.specs.Rows.{gfx_row}
 use Rattle.ps_laws.proofs.Operands.{Few, by_test, few_pushed}
@@ -28,7 +27,7 @@ use Rattle.ps_laws.proofs.EaselRows.{after_currentpoint, after_fill, after_setma
 use Rattle.ps_laws.proofs.EaselRows.{after_scale, after_rotate, after_transform, after_itransform, after_stroke}
 use Rattle.ps_laws.proofs.EaselRows.{after_clip, after_rectfill, after_rectstroke, after_rectclip, after_setlinewidth}
 use Rattle.ps_laws.proofs.EaselRows.{after_setmiterlimit, after_setlinecap, after_setlinejoin, after_setdash}
-use Rattle.ps_laws.proofs.EaselRows.{after_setpagedevice}
+use Rattle.ps_laws.proofs.EaselRows.{after_setpagedevice, after_colour}
 
 abbrev pub AtMost500 : List Obj → Type 0
 AtMost500 operands = length operands ≤ 500
@@ -58,36 +57,6 @@ few_on_top os a b h = omega arith
 few_on_easel : (g : GfxValue) (outcome : Outcome (List Obj)) → Few outcome → FewOfEasel (on_easel g outcome)
 few_on_easel g (Goes operands) h = h
 few_on_easel g (Refuses name) h = tt
-
-few_one : (gray : Option ℤ) (rest : List Obj) (g : GfxValue) → length rest ≤ 500 →
-    FewOfEasel (one_component gray rest g)
-few_one (Some gray) rest g h = h
-few_one gray rest g h = tt
-
-few_setgray : (operands : List Obj) (g : GfxValue) → length operands ≤ 500 → FewOfEasel (setgray_row operands g)
-few_setgray (gray ∷ rest) g h = few_one (raw_of gray) rest g (omega arith)
-few_setgray operands g h = tt
-
-few_three : (red green blue : Option ℤ) (rest : List Obj) (g : GfxValue) → length rest ≤ 500 →
-    FewOfEasel (three_components red green blue rest g)
-few_three (Some red) (Some green) (Some blue) rest g h = h
-few_three red green blue rest g h = tt
-
-few_setrgbcolor : (operands : List Obj) (g : GfxValue) → length operands ≤ 500 → FewOfEasel (setrgbcolor_row operands g)
-few_setrgbcolor (blue ∷ green ∷ red ∷ rest) g h =
-    few_three (raw_of red) (raw_of green) (raw_of blue) rest g (omega arith)
-few_setrgbcolor operands g h = tt
-
-few_four : (cyan magenta yellow black : Option ℤ) (rest : List Obj) (g : GfxValue) → length rest ≤ 500 →
-    FewOfEasel (four_components cyan magenta yellow black rest g)
-few_four (Some cyan) (Some magenta) (Some yellow) (Some black) rest g h = h
-few_four cyan magenta yellow black rest g h = tt
-
-few_setcmykcolor : (operands : List Obj) (g : GfxValue) → length operands ≤ 500 →
-    FewOfEasel (setcmykcolor_row operands g)
-few_setcmykcolor (black ∷ yellow ∷ magenta ∷ cyan ∷ rest) g h =
-    few_four (raw_of cyan) (raw_of magenta) (raw_of yellow) (raw_of black) rest g (omega arith)
-few_setcmykcolor operands g h = tt
 
 few_new : (made : Option (Part × StoreValue)) (os : List Obj) (g : GfxValue) → length os < 500 →
     FewOfScene (or_limit made (λ new. Goes (record { operands = Array new.0 false ∷ os; store = new.1; graphics = g })))
@@ -120,9 +89,9 @@ gfx_few OnGfx.Setdash os s g h = few_beside s _ (after_setdash AtMost500 os s g 
 gfx_few OnGfx.Currentlinewidth os s g h = few_beside s _ (few_on_easel g _ (few_pushed (Real g.state.line.width) os))
 gfx_few OnGfx.Currentgray os s g h = few_beside s _
     (few_on_easel g _ (few_pushed (Real (gray_of g.state.space g.state.code.c)) os))
-gfx_few OnGfx.Setgray os s g h = few_beside s _ (few_setgray os g h)
-gfx_few OnGfx.Setrgbcolor os s g h = few_beside s _ (few_setrgbcolor os g h)
-gfx_few OnGfx.Setcmykcolor os s g h = few_beside s _ (few_setcmykcolor os g h)
+gfx_few OnGfx.Setgray os s g h = few_beside s _ (after_colour AtMost500 Gray os g (few_dropped os h))
+gfx_few OnGfx.Setrgbcolor os s g h = few_beside s _ (after_colour AtMost500 Rgb os g (few_dropped os h))
+gfx_few OnGfx.Setcmykcolor os s g h = few_beside s _ (after_colour AtMost500 Cmyk os g (few_dropped os h))
 gfx_few OnGfx.Matrix os s g h = few_matrix os s g
 gfx_few OnGfx.Currentmatrix os s g h = few_currentmatrix os s g h
 gfx_few OnGfx.Setmatrix os s g h = few_beside s _ (after_setmatrix AtMost500 os s g (few_dropped os h))

@@ -1,23 +1,22 @@
 -- The graphics operators leave operands that are of the store.
-use Rattle.std.specs.Prelude.{ℤ, nat_lt, true, false}
+use Rattle.std.specs.Prelude.{nat_lt, true, false}
 use Rattle.std.proofs.Common.{ℕ, List, [], ◌∷◌, length, arith, Option, Some, None}
 use Rattle.ps_store.specs.declared.obj.Obj.{Obj}
 use Rattle.ps_store.specs.declared.obj.Obj.TheVariants.{Array, Real}
 use Rattle.ps_store.specs.declared.obj.Part.{Part}
 use Rattle.ps_store.specs.declared.oper.GfxOp.{GfxOp}
 use Rattle.ps_store.specs.declared.oper.GfxOp.TheVariants as OnGfx
-use Rattle.ps_store.specs.Numbers.{raw_of}
 use Rattle.ps_store.specs.Outcome.{Outcome, Goes, Refuses, or_limit}
 use Rattle.ps_store.specs.Store.{StoreValue, with_array_of}
 use Rattle.ps_store.specs.Gathering.{with_elements}
 use Rattle.page_model.specs.declared.shape.Rule.TheVariants.{Nonzero, EvenOdd}
+use Rattle.gfx_state.specs.declared.colour.Space.TheVariants.{Gray, Rgb, Cmyk}
 use Rattle.gfx_state.specs.Colour.{gray_of}
 use Rattle.gfx_state.specs.Graphics.{GfxValue}
 use Rattle.geo_matrix.specs.Affine.{MatrixValue, identity}
 use Rattle.ps_gfx_ops.specs.Easel.{OperandsAndGraphics}
 use Rattle.ps_gfx_ops.specs.Scene.{GraphicsScene, beside}
-use Rattle.ps_gfx_ops.specs.Colours.{one_component, setgray_row, three_components, setrgbcolor_row, four_components}
-use Rattle.ps_gfx_ops.specs.Colours.{setcmykcolor_row, on_easel}
+use Rattle.ps_gfx_ops.specs.Colours.{on_easel}
 use Rattle.ps_gfx_ops.specs.Matrices.{elements_of, matrix_row, currentmatrix_row}
 use Rattle.ps_gfx_ops.specs.Rows.{gfx_row}
 use Rattle.ps_laws.specs.Stored.{Each, IsOf}
@@ -30,7 +29,7 @@ use Rattle.ps_laws.proofs.EaselRows.{after_currentpoint, after_fill, after_setma
 use Rattle.ps_laws.proofs.EaselRows.{after_scale, after_rotate, after_transform, after_itransform, after_stroke}
 use Rattle.ps_laws.proofs.EaselRows.{after_clip, after_rectfill, after_rectstroke, after_rectclip, after_setlinewidth}
 use Rattle.ps_laws.proofs.EaselRows.{after_setmiterlimit, after_setlinecap, after_setlinejoin, after_setdash}
-use Rattle.ps_laws.proofs.EaselRows.{after_setpagedevice}
+use Rattle.ps_laws.proofs.EaselRows.{after_setpagedevice, after_colour}
 
 abbrev pub EaselOf : ℕ → Outcome OperandsAndGraphics → Type 0
 EaselOf m outcome = After (Each (IsOf m)) outcome
@@ -57,36 +56,6 @@ of_on_top m os h a b room = (tt, (tt, h))
 of_on_easel : (m : ℕ) (g : GfxValue) (outcome : Outcome (List Obj)) → AreOf m outcome → EaselOf m (on_easel g outcome)
 of_on_easel m g (Goes operands) h = h
 of_on_easel m g (Refuses name) h = tt
-
-of_one : (m : ℕ) (gray : Option ℤ) (rest : List Obj) (g : GfxValue) → Each (IsOf m) rest →
-    EaselOf m (one_component gray rest g)
-of_one m (Some gray) rest g h = h
-of_one m gray rest g h = tt
-
-of_setgray : (m : ℕ) (operands : List Obj) (g : GfxValue) → Each (IsOf m) operands → EaselOf m (setgray_row operands g)
-of_setgray m (gray ∷ rest) g h = of_one m (raw_of gray) rest g h.1
-of_setgray m operands g h = tt
-
-of_three : (m : ℕ) (red green blue : Option ℤ) (rest : List Obj) (g : GfxValue) → Each (IsOf m) rest →
-    EaselOf m (three_components red green blue rest g)
-of_three m (Some red) (Some green) (Some blue) rest g h = h
-of_three m red green blue rest g h = tt
-
-of_setrgbcolor : (m : ℕ) (operands : List Obj) (g : GfxValue) → Each (IsOf m) operands →
-    EaselOf m (setrgbcolor_row operands g)
-of_setrgbcolor m (blue ∷ green ∷ red ∷ rest) g h = of_three m (raw_of red) (raw_of green) (raw_of blue) rest g h.1.1.1
-of_setrgbcolor m operands g h = tt
-
-of_four : (m : ℕ) (cyan magenta yellow black : Option ℤ) (rest : List Obj) (g : GfxValue) → Each (IsOf m) rest →
-    EaselOf m (four_components cyan magenta yellow black rest g)
-of_four m (Some cyan) (Some magenta) (Some yellow) (Some black) rest g h = h
-of_four m cyan magenta yellow black rest g h = tt
-
-of_setcmykcolor : (m : ℕ) (operands : List Obj) (g : GfxValue) → Each (IsOf m) operands →
-    EaselOf m (setcmykcolor_row operands g)
-of_setcmykcolor m (black ∷ yellow ∷ magenta ∷ cyan ∷ rest) g h =
-    of_four m (raw_of cyan) (raw_of magenta) (raw_of yellow) (raw_of black) rest g h.1.1.1.1
-of_setcmykcolor m operands g h = tt
 
 of_elements : (m : ℕ) (a : MatrixValue) → Each (IsOf m) (elements_of a)
 of_elements m a = (tt, (tt, (tt, (tt, (tt, (tt, tt))))))
@@ -137,9 +106,12 @@ gfx_of OnGfx.Currentlinewidth os s g h k =
     of_beside s _ h (of_on_easel (length s.made) g _ (of_pushed (length s.made) (Real g.state.line.width) os tt k))
 gfx_of OnGfx.Currentgray os s g h k = of_beside s _ h
     (of_on_easel (length s.made) g _ (of_pushed (length s.made) (Real (gray_of g.state.space g.state.code.c)) os tt k))
-gfx_of OnGfx.Setgray os s g h k = of_beside s _ h (of_setgray (length s.made) os g k)
-gfx_of OnGfx.Setrgbcolor os s g h k = of_beside s _ h (of_setrgbcolor (length s.made) os g k)
-gfx_of OnGfx.Setcmykcolor os s g h k = of_beside s _ h (of_setcmykcolor (length s.made) os g k)
+gfx_of OnGfx.Setgray os s g h k = of_beside s _ h
+    (after_colour (Each (IsOf (length s.made))) Gray os g (of_dropped (length s.made) os k))
+gfx_of OnGfx.Setrgbcolor os s g h k = of_beside s _ h
+    (after_colour (Each (IsOf (length s.made))) Rgb os g (of_dropped (length s.made) os k))
+gfx_of OnGfx.Setcmykcolor os s g h k = of_beside s _ h
+    (after_colour (Each (IsOf (length s.made))) Cmyk os g (of_dropped (length s.made) os k))
 gfx_of OnGfx.Matrix os s g h k = of_matrix os s g h k
 gfx_of OnGfx.Currentmatrix os s g h k = of_currentmatrix os s g h k
 gfx_of OnGfx.Setmatrix os s g h k = of_beside s _ h

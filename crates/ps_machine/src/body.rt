@@ -487,6 +487,7 @@ impl Body {
     /// The page that was shown, which is erased; what `initgraphics` sets is set.
     pub(crate) fn take_page(&mut self) -> Page
         ensures page { result ≡ page_of self.old.graphics }
+        ensures plain { result.sources ≡ 0 }
         ensures rest { self.new ≡ shown self.old }
     {
         let page = self.gfx.take_page();

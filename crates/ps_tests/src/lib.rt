@@ -1,11 +1,16 @@
 //! Worked examples of the interpreter and the graphics state that no program can show.
 #![tactic(auto)]
 
+ghost use Rattle.std.specs.Prelude.{◌≡◌, ◌×◌, IfOk, None};
+
 use geo_path::Path;
 use gfx_state::Gfx;
+use page_model::{Bytes, Image, ImageMap};
 use press_fault::{Mem, Point, PsName};
+use press_nums::Wide;
 use ps_machine::{End, Event, Machine, Setup};
 use std::alloc::Global;
+use std::sync::Arc;
 use std::test::Fail;
 
 /// What a machine answers next.
@@ -79,5 +84,73 @@ fn exchanged(alloc: Global) -> Result<(u32, u32), Fail> {
 #[test]
 fn a_path_is_exchanged_for_another(rt: HostRuntime) -> Result<(), Fail> {
     assert_eq!(rt; exchanged(rt.alloc())?, (1, 0));
+    Ok(())
+}
+
+/// A gray image of one sample, on the page's first dot.
+fn one_sample(alloc: Global) -> Mem<Image>
+    ensures { IfOk result (λ image. (image.channels ≡ 1) × (image.source ≡ None)) }
+{
+    let mut codes = Bytes::new(alloc);
+    codes.push(128)?;
+    let (zero, one) = (Wide::of(0), Wide::of(1));
+    Ok(Image {
+        width: 1,
+        rows: 1,
+        channels: 1,
+        source: None,
+        codes,
+        map: ImageMap {
+            a: one,
+            b: zero,
+            c: zero,
+            d: one,
+            tx: zero,
+            ty: zero,
+            den: Wide::of(2),
+        },
+        low: -256,
+        high: 512,
+    })
+}
+
+/// How many marks an image and a mask of it make, and whether there is room for so many samples more.
+fn pictured(alloc: Global, most: u64, more: u64) -> Result<(usize, bool, bool), Fail> {
+    let mut gfx = Gfx::new(alloc, 1, 1, 72)?;
+    let image = Arc::new(alloc, one_sample(alloc)?)?;
+    let mask = Arc::try_clone(&image)?;
+    if gfx.mark_image(image, false).is_err() {
+        Err("no image")?;
+    }
+    if gfx.mark_image(mask, true).is_err() {
+        Err("no mask")?;
+    }
+    let (fits, passes) = (gfx.has_sample_room(most), gfx.has_image_room(more));
+    Ok((gfx.take_page().marks.items().len(), fits, passes))
+}
+
+#[test]
+fn the_samples_of_images_and_masks_count(rt: HostRuntime) -> Result<(), Fail> {
+    let counted = pictured(rt.alloc(), 67_108_862, 67_108_863)?;
+    assert_eq!(rt; counted, (2, true, false));
+    Ok(())
+}
+
+/// The font after `initgraphics`, where it was set before, and where a state saved before is restored.
+fn fonts(alloc: Global) -> Result<(Option<u32>, Option<u32>), Fail> {
+    let mut gfx = Gfx::new(alloc, 1, 1, 72)?;
+    if gfx.save().is_err() {
+        Err("not saved")?;
+    }
+    gfx.set_font(5);
+    gfx.initial();
+    let kept = gfx.font();
+    gfx.restore();
+    Ok((kept, gfx.font()))
+}
+
+#[test]
+fn a_font_is_kept_by_initgraphics_and_saved_with_the_state(rt: HostRuntime) -> Result<(), Fail> {
+    assert_eq!(rt; fonts(rt.alloc())?, (Some(5), None));
     Ok(())
 }
