@@ -1,5 +1,5 @@
 //! Marks that are added to the page.
-ghost use Rattle.std.specs.Prelude.{◌≡◌, ◌↔◌, ◌×◌, true, Some, None, OnOk, OnErr, IfOk, IsErrOf, IsTrue, [], length};
+ghost use Rattle.std.specs.Prelude.{◌≡◌, ◌↔◌, true, Some, None, OnOk, OnErr, IfOk, IsErrOf, IsTrue, [], length};
 ghost use Rattle.std.specs.Arc.{arc_value};
 ghost use Rattle.page_model.specs.Image.{ImageValue};
 ghost use Rattle.page_model.specs.Marking.{painting_of, IsSuited, Flatly};
