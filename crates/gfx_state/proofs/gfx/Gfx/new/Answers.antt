@@ -7,5 +7,5 @@ invariant_of-result c = (
   search rules,
   search rules,
   search rules,
-  rw (c.initial.ensures 0, c.new-4.ensures, c.new-5.ensures) at_first,
+  rw (c.initial.ensures 0, c.new-4.ensures, c.blank.ensures) at_first,
 )
