@@ -1,5 +1,5 @@
 use Rattle.std.proofs.Common.{arith, ◌≡◌, ◌∙◌, ◌≤◌, ◌<◌, ◌+◌, ◌-◌, ◌++◌, ℕ, ap, sym, List, [], ◌∷◌, length, take}
-use Rattle.std.proofs.Common.{length-append, reverse, nat_lt, Option, Some, None, Result, Err, if◌then◌else◌}
+use Rattle.std.proofs.Common.{length-append, reverse, Some, None, Result, Err, if◌then◌else◌}
 use Rattle.std.specs.Prelude.{ℤ}
 use Rattle.std.proofs.lemmas.Bool.{le-ltb}
 use Rattle.press_fault.specs.declared.names.PsName.{PsName}
