@@ -1,3 +1,4 @@
 pub mod Visits
 pub mod BindSteps
 pub mod Contents
+pub mod Turns

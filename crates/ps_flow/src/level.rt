@@ -1,7 +1,8 @@
 //! Levels of the execution stack.
 ghost use Rattle.std.specs.Prelude.{◌≡◌, ◌<◌};
 ghost use Rattle.ps_flow.specs.declared.pushes.Pushes.{Pushes as Pushed};
-ghost use Rattle.ps_flow.specs.Levels.{given_of, offered, for_turn, behind, nothing_of, is_stopped, is_loop};
+ghost use Rattle.ps_flow.specs.Levels.{given_of, offered, begins, for_turn, behind, nothing_of, is_stopped, is_loop};
+ghost use Rattle.ps_flow.specs.Code.Turns.{begun, leaving};
 
 use crate::contents::{Objects, Pairs};
 use crate::counter::Counter;
@@ -127,8 +128,16 @@ pub(crate) fn given(level: &mut Level, pushes: &mut Pushes) -> Offer
             body,
             rest,
         } => for_given(next, *limit, *body, rest, pushes),
-        Level::Forall { left, body, rest } => forall_given(left, *body, rest, pushes),
-        Level::ForallEntries { left, body, rest } => entries_given(left, *body, rest, pushes),
+        Level::Forall { rest, .. } if rest.len > 0 => next_place(rest, Offer::Ends),
+        Level::Forall { left, .. } => match left.next() {
+            Some(o) => turn_given(level, Pushes::One(o), pushes),
+            None => Offer::Ends,
+        },
+        Level::ForallEntries { rest, .. } if rest.len > 0 => next_place(rest, Offer::Ends),
+        Level::ForallEntries { left, .. } => match left.next() {
+            Some((key, value)) => turn_given(level, Pushes::Two(key, value), pushes),
+            None => Offer::Ends,
+        },
     }
 }
 
@@ -179,34 +188,42 @@ fn for_given(
     next_place(rest, Offer::Ends)
 }
 
-fn forall_given(left: &mut Objects, body: Part, rest: &mut Part, pushes: &mut Pushes) -> Offer
-    ensures { given_of (Level.Forall left.old body rest.old) ≡
-        record { gives = offered result pushes.new; level = Level.Forall left.new body rest.new } }
+/// A turn of a `forall` that pushes these.
+fn turn_given(level: &mut Level, values: Pushes, pushes: &mut Pushes) -> Offer
+    ensures { begins FlowOp.Forall values (begun level.old) ≡
+        record { gives = offered result pushes.new; level = level.new } }
 {
-    if rest.len == 0 {
-        let Some(o) = left.next() else {
-            return Offer::Ends;
-        };
-        *rest = body;
-        *pushes = Pushes::One(o);
-        return Offer::Gives(NextObj::TurnWith(FlowOp::Forall));
-    }
-    next_place(rest, Offer::Ends)
+    begin(level);
+    *pushes = values;
+    Offer::Gives(NextObj::TurnWith(FlowOp::Forall))
 }
 
-fn entries_given(left: &mut Pairs, body: Part, rest: &mut Part, pushes: &mut Pushes) -> Offer
-    ensures { given_of (Level.ForallEntries left.old body rest.old) ≡
-        record { gives = offered result pushes.new; level = Level.ForallEntries left.new body rest.new } }
+/// A `forall` runs its body from the first place.
+fn begin(level: &mut Level)
+    ensures { level.new ≡ begun level.old }
 {
-    if rest.len == 0 {
-        let Some((key, value)) = left.next() else {
-            return Offer::Ends;
-        };
-        *rest = body;
-        *pushes = Pushes::Two(key, value);
-        return Offer::Gives(NextObj::TurnWith(FlowOp::Forall));
+    match level {
+        Level::Forall { body, .. } => {
+            let whole = *body;
+            leave(level, whole);
+        }
+        Level::ForallEntries { body, .. } => {
+            let whole = *body;
+            leave(level, whole);
+        }
+        _ => {}
     }
-    next_place(rest, Offer::Ends)
+}
+
+/// A `forall` has this part of its body left.
+fn leave(level: &mut Level, part: Part)
+    ensures { level.new ≡ leaving part level.old }
+{
+    match level {
+        Level::Forall { rest, .. } => *rest = part,
+        Level::ForallEntries { rest, .. } => *rest = part,
+        _ => {}
+    }
 }
 
 /// The next place of a procedure, or what comes where nothing is left of it.
