@@ -126,7 +126,10 @@ impl Body {
     fn refuse(&mut self, end: &mut End) -> Turn
         ensures { unmade self.old.unclosed self.old ≡ step_of result self.new end.new }
     {
-        if self.unclosed.is_empty() && self.stack.len() >= 500 {
+        if !self.unclosed.is_empty() {
+            return self.fail(end, PsName::LimitCheck, named(b"scan"));
+        }
+        if self.stack.len() >= 500 {
             self.fail(end, PsName::StackOverflow, named(b"push"))
         } else {
             self.fail(end, PsName::LimitCheck, named(b"scan"))
