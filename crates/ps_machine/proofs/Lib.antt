@@ -2,3 +2,4 @@ mod Catching
 mod Filled
 pub mod Few
 pub mod Going
+pub mod Refusing
