@@ -193,8 +193,8 @@ fn case(name: &str, source: &Source, target: &Matrix, codes: &[[u8; 4]]) {
         sum = sum.wrapping_mul(31).wrapping_add(red).wrapping_add(green * 256).wrapping_add(blue * 65536);
     }
     let time = start.elapsed();
-    println!("{name}: {} colours, sum {sum}", codes.len());
-    eprintln!("{name}: {} ns", time.as_nanos());
+    println!("colour, {name}: {} colours, sum {sum}", codes.len());
+    eprintln!("colour, {name}: {} ns", time.as_nanos());
 }
 
 fn main() {

@@ -228,8 +228,8 @@ fn case(name: &str, count: u16, plan: Plan, width: u32) {
         );
         walked += t.elapsed().as_nanos();
     }
-    println!("{name}: {} spans, sum {}", sums.spans, sums.sum);
-    eprintln!("{name}: make {made} walk {walked}");
+    println!("fill, {name}: {} spans, sum {}", sums.spans, sums.sum);
+    eprintln!("fill, {name}: make {made} walk {walked}");
 }
 fn main() {
     let eight = Plan {

@@ -19,6 +19,7 @@ pub or_first : (a b : Bool) → (a || b) ≡ false → a ≡ false
 or_first false b h = refl
 or_first true b h = h
 
+-- the second of two of which neither is true is false
 pub or_second : (a b : Bool) → (a || b) ≡ false → b ≡ false
 or_second false b h = h
 or_second true b h = absurd (grind arith)

@@ -115,7 +115,7 @@ fn is_bad_para(tag: &[u8]) -> bool
 
 /// Whether a tag of 8 bytes or more has another type than `curv` and `para`.
 #[tactic(auto, unfolding(crate::specs::CurveTag::has_other_type))]
-fn has_other_type(tag: &[u8]) -> bool
+pub fn has_other_type(tag: &[u8]) -> bool
     ensures { result ≡ has_other_type tag.now }
 {
     if tag.len() < 8 {
@@ -127,9 +127,10 @@ fn has_other_type(tag: &[u8]) -> bool
     !is_para(tag)
 }
 
-/// Whether the tag of a curve is misshapen.
+/// Whether the tag of a curve is shorter than its content, or its count, function type or exponent
+/// is none.
 #[tactic(auto, unfolding(crate::specs::CurveTag::is_misshapen))]
-fn is_misshapen(tag: &[u8]) -> bool
+pub fn is_misshapen(tag: &[u8]) -> bool
     ensures { result ≡ is_misshapen tag.now }
 {
     if tag.len() < 8 {
@@ -232,7 +233,7 @@ fn para_curve(alloc: Global, tag: &[u8]) -> Mem<Curve>
 
 /// The curve of a tag that has one, and how many bytes of it are read.
 #[tactic(auto, using(crate::proofs::Shapes::curv_of, crate::proofs::Shapes::para_of, crate::proofs::Shapes::eight_of), unfolding(crate::specs::CurveTag::curve_of))]
-fn curve_of_tag(alloc: Global, tag: &[u8]) -> Mem<(Curve, usize)>
+pub fn curve_of_tag(alloc: Global, tag: &[u8]) -> Mem<(Curve, usize)>
     requires good { is_misshapen tag.now ≡ false }
     requires known { has_other_type tag.now ≡ false }
     ensures curve { IfOk result (λ read. read.0 ≡ curve_of tag.now) }

@@ -1,10 +1,11 @@
 //! One-dimensional curves.
-ghost use Rattle.std.specs.Prelude.{◌≡◌, ◌≤◌, ◌<◌, ◌+◌, ◌*◌, ◌-◌, length, Some, None, nat_le, IsTrue, ◌↔◌};
+ghost use Rattle.std.specs.Prelude.{◌≡◌, ◌≤◌, ◌<◌, ◌+◌, ◌*◌, ◌-◌, length, Some, None, nat_le, IsTrue, IfOk, ◌↔◌};
 ghost use Rattle.icc_tables.specs.Curves.{table_value, curve_at, curve_back, IsRising};
 ghost use Rattle.icc_tables.specs.Rounded.{rounded};
 
 use crate::rounded::by_65535;
 use crate::values::Values;
+use std::alloc::{AllocError, Global};
 use std::marker::Model;
 
 /// A curve of one channel (ICC.1:2010, 10.5 curveType): the identity, or from 2 to 65,536 entries
@@ -49,6 +50,20 @@ impl Curve {
             entries: Some(Values::from_vec(values)),
             rises,
         }
+    }
+
+    /// The same curve once more.
+    pub fn copy(&self, alloc: Global) -> Result<Curve, AllocError>
+        ensures { IfOk result (λ curve. curve ≡ self.now) }
+    {
+        let entries = match &self.entries {
+            None => None,
+            Some(entries) => Some(entries.copy(alloc)?),
+        };
+        Ok(Curve {
+            entries,
+            rises: self.rises,
+        })
     }
 }
 

@@ -3,7 +3,7 @@
 //! Proved against `specs/Curves.antt`, `specs/Lattice.antt` and `specs/Pcs.antt` (ICC.1:2010). Start
 //! with `curve.rt`, then `lattice.rt`, `pipeline.rt` and `pcs.rt`.
 //! Codes have 8 bits, values 16; numbers of the connection space count 1/65536 of the unit.
-//! Nothing here takes memory.
+//! Only a copy takes memory.
 #![tactic(auto)]
 
 mod curve;

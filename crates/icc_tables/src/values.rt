@@ -1,5 +1,6 @@
-ghost use Rattle.std.specs.Prelude.{◌≡◌};
+ghost use Rattle.std.specs.Prelude.{◌≡◌, IfOk};
 
+use std::alloc::{AllocError, Global};
 use std::marker::Model;
 
 /// Values of 16 bits, in order: the entries of a curve or of a lut's tables.
@@ -29,6 +30,15 @@ impl Values {
         ensures { result.items ≡ self }
     {
         self.values
+    }
+
+    /// The same values once more.
+    pub fn copy(&self, alloc: Global) -> Result<Values, AllocError>
+        ensures { IfOk result (λ values. values ≡ self.now) }
+    {
+        Ok(Values {
+            values: Vec::from_slice(alloc, &self.values)?,
+        })
     }
 
     /// The values, in order.

@@ -4,8 +4,12 @@
 //! Standard output has what doesn't change from run to run, standard error the times.
 #![tactic(auto)]
 
+mod cache;
+mod colour;
+mod fill;
 mod flow;
 mod path;
+mod profiles;
 mod scan;
 mod store;
 mod stroke;
@@ -36,6 +40,9 @@ impl Size {
 /// A benchmark. A new one has a module, a place here and in `ALL`, a word, and a line in `run`.
 #[derive(Clone, Copy, Debug, PartialEq, Eq)]
 enum Bench {
+    Cache,
+    Colour,
+    Fill,
     Flow,
     Path,
     Scan,
@@ -43,7 +50,10 @@ enum Bench {
     Stroke,
 }
 
-const ALL: [Bench; 5] = [
+const ALL: [Bench; 8] = [
+    Bench::Cache,
+    Bench::Colour,
+    Bench::Fill,
     Bench::Flow,
     Bench::Path,
     Bench::Scan,
@@ -51,11 +61,14 @@ const ALL: [Bench; 5] = [
     Bench::Stroke,
 ];
 
-const USAGE: &str = "speed: usage: speed all|flow|path|scan|store|stroke";
+const USAGE: &str = "speed: usage: speed all|cache|colour|fill|flow|path|scan|store|stroke";
 
 impl Bench {
     fn of(word: &str) -> Option<Bench> {
         match word {
+            "cache" => Some(Bench::Cache),
+            "colour" => Some(Bench::Colour),
+            "fill" => Some(Bench::Fill),
             "flow" => Some(Bench::Flow),
             "path" => Some(Bench::Path),
             "scan" => Some(Bench::Scan),
@@ -67,6 +80,9 @@ impl Bench {
 
     fn run(self, rt: &HostRuntime, size: Size) -> io::Result<()> {
         match self {
+            Bench::Cache => cache::run(rt, size),
+            Bench::Colour => colour::run(rt),
+            Bench::Fill => fill::run(rt),
             Bench::Flow => flow::run(rt, size),
             Bench::Path => path::run(rt, size),
             Bench::Scan => scan::run(rt, size),

@@ -1,0 +1,5 @@
+pub mod Entries
+pub mod Lists
+pub mod Shapes
+pub mod Sound
+pub mod Whole
