@@ -34,21 +34,25 @@ pub put_begins : (old : List ℕ) (n : ℕ) → n < 2 ^ 63 → IsPutSoFar old (o
 unfolding number_bytes
 put_begins old n small = record { begins = begins_same old old refl; more = 8; small = small; rest = refl }
 
+-- one more group was put, of so many that may follow
+put_more : (old whole now after : List ℕ) (left more : ℕ) → 128 ≤ left → left < 128 ^ suc more → BeginsWith old now
+    → whole ≡ now ++ groups (suc more) left → after ≡ now ++ (left % 128 + 128) ∷ []
+    → IsPutSoFar old whole after (left / 128)
+put_more old whole now after left zero large small begins rest put = absurd (omega (arith, power_step 0))
+put_more old whole now after left (suc more) large small begins rest put = record {
+  begins = begins_through old now after begins (begins_put now ((left % 128 + 128) ∷ []) after put);
+  more = more;
+  small = omega (arith, power_step (suc more));
+  rest = rest ∙ ap (λ (t : List ℕ). now ++ t) (groups_more (suc more) left large)
+      ∙ sym (append_assoc now ((left % 128 + 128) ∷ []) (groups (suc more) (left / 128)))
+      ∙ ap (λ (t : List ℕ). t ++ groups (suc more) (left / 128)) (sym put);
+}
+
 -- one more group was put
 pub put_goes_on : (old whole now after : List ℕ) (left : ℕ) → 128 ≤ left → IsPutSoFar old whole now left
     → after ≡ now ++ (left % 128 + 128) ∷ [] → IsPutSoFar old whole after (left / 128)
-put_goes_on old whole now after left large so_far put = on so_far.more so_far.small so_far.rest
-  where
-    on : (more : ℕ) → left < 128 ^ suc more → whole ≡ now ++ groups (suc more) left → IsPutSoFar old whole after (left / 128)
-    on zero small rest = absurd (omega (arith, power_step 0))
-    on (suc more) small rest = record {
-      begins = begins_after old _ now after (so_far.begins.parts) (begins_put now ((left % 128 + 128) ∷ []) after put);
-      more = more;
-      small = omega (arith, power_step (suc more));
-      rest = rest ∙ ap (λ (t : List ℕ). now ++ t) (groups_more (suc more) left large)
-          ∙ sym (append_assoc now ((left % 128 + 128) ∷ []) (groups (suc more) (left / 128)))
-          ∙ ap (λ (t : List ℕ). t ++ groups (suc more) (left / 128)) (sym put);
-    }
+put_goes_on old whole now after left large so_far put =
+    put_more old whole now after left so_far.more large so_far.small so_far.begins so_far.rest put
 
 -- the last group was put
 pub put_ends : (old whole now after : List ℕ) (left : ℕ) → left < 128 → IsPutSoFar old whole now left

@@ -57,7 +57,7 @@ drawn_takes : (bytes after : List ℕ) (read : CmdValue × List ℕ) → HasTag 
 unfolding drawn_at cmd_bytes
 drawn_takes bytes after read first e =
     let a = bind_some (rule_at after)
-        (λ rule. counted_at shape_at rule.1 >>= λ shapes. Some (Drawn rule.0 shapes.0, shapes.1)) read e in
+    (λ rule. counted_at shape_at rule.1 >>= λ shapes. Some (Drawn rule.0 shapes.0, shapes.1)) read e in
     let b = bind_some (counted_at shape_at a.0.1) (λ shapes. Some (Drawn a.0.0 shapes.0, shapes.1)) read a.2 in
     let rule = rule_takes after a.0.0 a.0.1 first.taken.rest_fits a.1 in
     let shapes = shapes_reader.takes a.0.1 b.0.0 b.0.1 rule.rest_fits b.1 in
@@ -159,7 +159,7 @@ pub is_front : (bytes rest : List ℕ) (cmd : CmdValue) → IsBytes bytes → cm
 is_front bytes rest cmd fits e =
     let t = cmd_takes bytes cmd rest fits e in
     let long : length bytes ≡ length (cmd_bytes cmd) + length rest =
-        ap length t.0.parts ∙ length-append (cmd_bytes cmd) rest in
+    ap length t.0.parts ∙ length-append (cmd_bytes cmd) rest in
     let count : length bytes - length rest ≡ length (cmd_bytes cmd) = omega arith in
     record {
       inside = omega arith;
@@ -185,7 +185,7 @@ pub put_is_read : (put read : CmdValue) (after : List ℕ) (count : ℕ) → IsC
 put_is_read put read after count fits front =
     let whole = cmd_bytes put ++ after in
     let parts : cmd_bytes read ++ drop count whole ≡ whole =
-        ap (λ (t : List ℕ). t ++ drop count whole) (sym front.spelled) ∙ take-append-drop count whole in
+    ap (λ (t : List ℕ). t ++ drop count whole) (sym front.spelled) ∙ take-append-drop count whole in
     let same = one_front read put (drop count whole) after front.command fits parts in
     let long : length (take count whole) ≡ length (cmd_bytes put) = ap length front.spelled ∙ ap (λ c. length (cmd_bytes c)) same.0 in
     (same.0, omega (arith, length-take count whole, front.inside, long))

@@ -104,11 +104,11 @@ rgb_takes : (bytes : List ℕ) (code : CodeValue) (rest : List ℕ) → IsBytes 
     → TakesCode 3 bytes (code, rest)
 rgb_takes bytes code rest fits e =
     let a = bind_some (byte_at bytes) (λ red. byte_at red.1 >>= λ green. byte_at green.1 >>= λ blue.
-        Some (record { n = 3; c = red.0 ∷ green.0 ∷ blue.0 ∷ 0 ∷ [] }, blue.1)) (code, rest) e in
+    Some (record { n = 3; c = red.0 ∷ green.0 ∷ blue.0 ∷ 0 ∷ [] }, blue.1)) (code, rest) e in
     let b = bind_some (byte_at a.0.1) (λ green. byte_at green.1 >>= λ blue.
-        Some (record { n = 3; c = a.0.0 ∷ green.0 ∷ blue.0 ∷ 0 ∷ [] }, blue.1)) (code, rest) a.2 in
+    Some (record { n = 3; c = a.0.0 ∷ green.0 ∷ blue.0 ∷ 0 ∷ [] }, blue.1)) (code, rest) a.2 in
     let c = bind_some (byte_at b.0.1) (λ blue. Some (record { n = 3; c = a.0.0 ∷ b.0.0 ∷ blue.0 ∷ 0 ∷ [] }, blue.1))
-        (code, rest) b.2 in
+    (code, rest) b.2 in
     let first = byte_takes bytes a.0.0 a.0.1 fits a.1 in
     let second = byte_takes a.0.1 b.0.0 b.0.1 first.0.rest_fits b.1 in
     let third = byte_takes b.0.1 c.0.0 c.0.1 second.0.rest_fits c.1 in
@@ -130,14 +130,14 @@ cmyk_takes : (bytes : List ℕ) (code : CodeValue) (rest : List ℕ) → IsBytes
     → TakesCode 4 bytes (code, rest)
 cmyk_takes bytes code rest fits e =
     let a = bind_some (byte_at bytes) (λ cyan. byte_at cyan.1 >>= λ magenta. byte_at magenta.1 >>= λ yellow.
-        byte_at yellow.1 >>= λ black.
-        Some (record { n = 4; c = cyan.0 ∷ magenta.0 ∷ yellow.0 ∷ black.0 ∷ [] }, black.1)) (code, rest) e in
+    byte_at yellow.1 >>= λ black.
+    Some (record { n = 4; c = cyan.0 ∷ magenta.0 ∷ yellow.0 ∷ black.0 ∷ [] }, black.1)) (code, rest) e in
     let b = bind_some (byte_at a.0.1) (λ magenta. byte_at magenta.1 >>= λ yellow. byte_at yellow.1 >>= λ black.
-        Some (record { n = 4; c = a.0.0 ∷ magenta.0 ∷ yellow.0 ∷ black.0 ∷ [] }, black.1)) (code, rest) a.2 in
+    Some (record { n = 4; c = a.0.0 ∷ magenta.0 ∷ yellow.0 ∷ black.0 ∷ [] }, black.1)) (code, rest) a.2 in
     let c = bind_some (byte_at b.0.1) (λ yellow. byte_at yellow.1 >>= λ black.
-        Some (record { n = 4; c = a.0.0 ∷ b.0.0 ∷ yellow.0 ∷ black.0 ∷ [] }, black.1)) (code, rest) b.2 in
+    Some (record { n = 4; c = a.0.0 ∷ b.0.0 ∷ yellow.0 ∷ black.0 ∷ [] }, black.1)) (code, rest) b.2 in
     let d = bind_some (byte_at c.0.1) (λ black. Some (record { n = 4; c = a.0.0 ∷ b.0.0 ∷ c.0.0 ∷ black.0 ∷ [] }, black.1))
-        (code, rest) c.2 in
+    (code, rest) c.2 in
     let first = byte_takes bytes a.0.0 a.0.1 fits a.1 in
     let second = byte_takes a.0.1 b.0.0 b.0.1 first.0.rest_fits b.1 in
     let third = byte_takes b.0.1 c.0.0 c.0.1 second.0.rest_fits c.1 in
@@ -228,9 +228,9 @@ ink_takes : (bytes : List ℕ) (ink : Ink) (rest : List ℕ) → IsBytes bytes �
 unfolding ink_at ink_bytes
 ink_takes bytes ink rest fits e =
     let a = bind_some (byte_at bytes) (λ channels. number_at channels.1 >>= λ place. code_at channels.0 place.1 >>= λ code.
-        ink_of place.0 code.0 code.1) (ink, rest) e in
+    ink_of place.0 code.0 code.1) (ink, rest) e in
     let b = bind_some (number_at a.0.1) (λ place. code_at a.0.0 place.1 >>= λ code. ink_of place.0 code.0 code.1)
-        (ink, rest) a.2 in
+    (ink, rest) a.2 in
     let c = bind_some (code_at a.0.0 b.0.1) (λ code. ink_of b.0.0 code.0 code.1) (ink, rest) b.2 in
     let first = byte_takes bytes a.0.0 a.0.1 fits a.1 in
     let second = number_reader.takes a.0.1 b.0.0 b.0.1 first.0.rest_fits b.1 in
@@ -238,20 +238,22 @@ ink_takes bytes ink rest fits e =
     let code : CodeValue = c.0.0 in
     let later = Takes-then a.0.1 (number_bytes b.0.0) b.0.1 (take code.n code.c) c.0.1 second.0 third.taken in
     let all : Takes bytes (code.n ∷ (number_bytes b.0.0 ++ take code.n code.c)) c.0.1 =
-        tagged a.0.0 code.n bytes a.0.1 (number_bytes b.0.0 ++ take code.n code.c) c.0.1 first.0 (sym third.channels) later in
+    tagged a.0.0 code.n bytes a.0.1 (number_bytes b.0.0 ++ take code.n code.c) c.0.1 first.0 (sym third.channels) later in
     elim (chosen (eqb b.0.0 0) (Some (Plain code, c.0.1))
     (cond (ltb (b.0.0 - 1) (2 ^ 32)) (Some (Linked (b.0.0 - 1) code, c.0.1)) None) (Some (ink, rest)) c.2) [
       | inl none ↦
-          ended (λ (q : Ink × List ℕ). Takes bytes (ink_bytes q.0) q.1 × IsInk q.0) (Plain code, c.0.1) (ink, rest) none.1
-          (subst (λ (k : ℕ). Takes bytes (code.n ∷ (number_bytes k ++ take code.n code.c)) c.0.1) (eqb-true b.0.0 0 none.0) all,
-          third.whole)
+          ended (λ (q : Ink × List ℕ). Takes bytes (ink_bytes q.0) q.1 × IsInk q.0) (Plain code, c.0.1) (ink, rest) none.1 (
+            subst (λ (k : ℕ). Takes bytes (code.n ∷ (number_bytes k ++ take code.n code.c)) c.0.1) (eqb-true b.0.0 0 none.0) all,
+            third.whole,
+          )
       | inr some ↦
           let g = guard_yes (ltb (b.0.0 - 1) (2 ^ 32)) (Linked (b.0.0 - 1) code, c.0.1) (ink, rest) some.1 in
           let not_none = eqb-false b.0.0 0 some.0 in
           let place : b.0.0 ≡ b.0.0 - 1 + 1 = omega arith in
-          subst (λ (q : Ink × List ℕ). Takes bytes (ink_bytes q.0) q.1 × IsInk q.0) g.1
-          (subst (λ (k : ℕ). Takes bytes (code.n ∷ (number_bytes k ++ take code.n code.c)) c.0.1) place all,
-          (ltb-true (b.0.0 - 1) (2 ^ 32) g.0, third.whole))
+          subst (λ (q : Ink × List ℕ). Takes bytes (ink_bytes q.0) q.1 × IsInk q.0) g.1 (
+            subst (λ (k : ℕ). Takes bytes (code.n ∷ (number_bytes k ++ take code.n code.c)) c.0.1) place all,
+            (ltb-true (b.0.0 - 1) (2 ^ 32) g.0, third.whole),
+          )
     ]
 
 -- an ink with the place of its source is read again
@@ -260,9 +262,12 @@ placed_again : (place : ℕ) (code : CodeValue) (rest : List ℕ) → place < 2 
 unfolding ink_at
 placed_again place code rest small whole =
     let regrouped : (number_bytes place ++ take code.n code.c) ++ rest ≡ number_bytes place ++ (take code.n code.c ++ rest) =
-        append_assoc (number_bytes place) (take code.n code.c) rest in
-    rw (regrouped, number_reader.again place (take code.n code.c ++ rest) small,
-    code_again code.n code.c rest whole.code whole.places) refl
+    append_assoc (number_bytes place) (take code.n code.c) rest in
+    rw (
+      regrouped,
+      number_reader.again place (take code.n code.c ++ rest) small,
+      code_again code.n code.c rest whole.code whole.places,
+    ) refl
 
 -- an ink is read again
 ink_again : (ink : Ink) (rest : List ℕ) → IsInk ink → ink_at (ink_bytes ink ++ rest) ≡ Some (ink, rest)

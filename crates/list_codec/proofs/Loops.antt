@@ -28,8 +28,8 @@ unfolding many_at
 goes_on item front count i bytes a after total more here so_far =
     let k : count - i ≡ suc (count - (i + 1)) = omega arith in
     let one : with_front front (many_at item (count - i) bytes)
-        ≡ with_front (front ++ a ∷ []) (many_at item (count - (i + 1)) after) =
-        rw (k, here) (regroup front a (many_at item (count - (i + 1)) after)) in
+    ≡ with_front (front ++ a ∷ []) (many_at item (count - (i + 1)) after) =
+    rw (k, here) (regroup front a (many_at item (count - (i + 1)) after)) in
     sym one ∙ so_far
 
 -- an item can't be read
@@ -51,7 +51,7 @@ unfolding many_at
 is_done item front count i bytes total all so_far =
     let k : count - i ≡ 0 = omega arith in
     let one : with_front front (many_at item (count - i) bytes) ≡ Some (front, bytes) =
-        rw k (ap (λ all. Some (all, bytes)) (append-nil front)) in
+    rw k (ap (λ all. Some (all, bytes)) (append-nil front)) in
     sym so_far ∙ one
 
 -- one more point is read
@@ -63,8 +63,8 @@ unfolding points_at
 point_goes_on front count i before bytes p after total more here so_far =
     let k : count - i ≡ suc (count - (i + 1)) = omega arith in
     let one : with_front front (points_at (count - i) before bytes)
-        ≡ with_front (front ++ p ∷ []) (points_at (count - (i + 1)) p after) =
-        rw (k, here) (regroup front p (points_at (count - (i + 1)) p after)) in
+    ≡ with_front (front ++ p ∷ []) (points_at (count - (i + 1)) p after) =
+    rw (k, here) (regroup front p (points_at (count - (i + 1)) p after)) in
     sym one ∙ so_far
 
 -- a point can't be read
@@ -85,5 +85,5 @@ unfolding points_at
 points_done front count i before bytes total all so_far =
     let k : count - i ≡ 0 = omega arith in
     let one : with_front front (points_at (count - i) before bytes) ≡ Some (front, bytes) =
-        rw k (ap (λ (ps : List PointValue). Some (ps, bytes)) (append-nil front)) in
+    rw k (ap (λ (ps : List PointValue). Some (ps, bytes)) (append-nil front)) in
     sym so_far ∙ one

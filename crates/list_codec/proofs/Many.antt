@@ -20,7 +20,7 @@ many_take item spelled Fits reader zero bytes all rest fits e =
     ([], bytes) (all, rest) e (record { parts = refl; rest_fits = fits }, refl, tt)
 many_take item spelled Fits reader (suc count) bytes all rest fits e =
     let a = bind_some (item bytes)
-        (λ first. many_at item count first.1 >>= λ others. Some (first.0 ∷ others.0, others.1)) (all, rest) e in
+    (λ first. many_at item count first.1 >>= λ others. Some (first.0 ∷ others.0, others.1)) (all, rest) e in
     let b = bind_some (many_at item count a.0.1) (λ others. Some (a.0.0 ∷ others.0, others.1)) (all, rest) a.2 in
     let first = reader.takes bytes a.0.0 a.0.1 fits a.1 in
     let others = many_take item spelled Fits reader count a.0.1 b.0.0 b.0.1 first.0.rest_fits b.1 in
@@ -36,7 +36,7 @@ unfolding many_at
 many_again item spelled Fits reader [] rest fits = refl
 many_again item spelled Fits reader (a ∷ all) rest fits =
     let regrouped : (spelled a ++ flat_map spelled all) ++ rest ≡ spelled a ++ (flat_map spelled all ++ rest) =
-        append_assoc (spelled a) (flat_map spelled all) rest in
+    append_assoc (spelled a) (flat_map spelled all) rest in
     rw (regrouped, reader.again a (flat_map spelled all ++ rest) fits.0, many_again item spelled Fits reader all rest fits.1) refl
 
 -- a counted list that is read is spelled so
@@ -49,9 +49,10 @@ counted_takes item spelled Fits reader bytes all rest fits e =
     let a = bind_some (number_at bytes) (λ count. many_at item count.0 count.1) (all, rest) e in
     let first = number_reader.takes bytes a.0.0 a.0.1 fits a.1 in
     let others = many_take item spelled Fits reader a.0.0 a.0.1 all rest first.0.rest_fits a.2 in
-    let both = Takes-then bytes (number_bytes a.0.0) a.0.1 (flat_map spelled all) rest first.0 others.0 in
-    (subst (λ (k : ℕ). Takes bytes (number_bytes k ++ flat_map spelled all) rest) (sym others.1) both,
-    record { few = omega (arith, first.1, others.1); each = others.2 })
+    let both = Takes-then bytes (number_bytes a.0.0) a.0.1 (flat_map spelled all) rest first.0 others.0 in (
+      subst (λ (k : ℕ). Takes bytes (number_bytes k ++ flat_map spelled all) rest) (sym others.1) both,
+      record { few = omega (arith, first.1, others.1); each = others.2 },
+    )
 
 -- a counted list is read again
 pub counted_again : {A : Type 0} (item : List ℕ → Option (A × List ℕ)) (spelled : A → List ℕ) (Fits : A → Type 0)
@@ -60,7 +61,7 @@ pub counted_again : {A : Type 0} (item : List ℕ → Option (A × List ℕ)) (s
 unfolding counted_at
 counted_again item spelled Fits reader all rest fits =
     let regrouped : (number_bytes (length all) ++ flat_map spelled all) ++ rest
-        ≡ number_bytes (length all) ++ (flat_map spelled all ++ rest) =
-        append_assoc (number_bytes (length all)) (flat_map spelled all) rest in
+    ≡ number_bytes (length all) ++ (flat_map spelled all ++ rest) =
+    append_assoc (number_bytes (length all)) (flat_map spelled all) rest in
     rw (regrouped, number_reader.again (length all) (flat_map spelled all ++ rest) fits.few)
     (many_again item spelled Fits reader all rest fits.each)

@@ -48,11 +48,11 @@ more_takes most low high n bytes after rest last first byte large others small e
     let part : value % 128 + 128 ≡ low = omega arith in
     let over : value / 128 ≡ high = omega arith in
     let spelled : groups (suc most) value ≡ low ∷ groups most high =
-        groups_more most value (omega arith) ∙ ap (λ (k : ℕ). k ∷ groups most (value / 128)) part
-        ∙ ap (λ (k : ℕ). low ∷ groups most k) over in
+    groups_more most value (omega arith) ∙ ap (λ (k : ℕ). k ∷ groups most (value / 128)) part
+    ∙ ap (λ (k : ℕ). low ∷ groups most k) over in
     let both : Takes bytes (groups (suc most) value) last =
-        subst (λ (text : List ℕ). Takes bytes text last) (sym spelled)
-        (Takes-then bytes (low ∷ []) after (groups most high) last first others) in
+    subst (λ (text : List ℕ). Takes bytes text last) (sym spelled)
+    (Takes-then bytes (low ∷ []) after (groups most high) last first others) in
     let below : value < 128 ^ suc most = omega (arith, power_step most) in
     subst (λ (p : ℕ × List ℕ). Takes bytes (groups (suc most) p.0) p.1 × (p.0 < 128 ^ suc most)) g.1 (both, below)
 
@@ -63,13 +63,13 @@ unfolding groups_at
 groups_takes zero bytes n rest fits e = absurd cc
 groups_takes (suc most) bytes n rest fits e =
     let a = bind_some (byte_at bytes)
-        (λ low. cond (ltb low.0 128) (Some low) (option_and_then (joined low.0) (groups_at most low.1))) (n, rest) e in
+    (λ low. cond (ltb low.0 128) (Some low) (option_and_then (joined low.0) (groups_at most low.1))) (n, rest) e in
     let first = byte_takes bytes a.0.0 a.0.1 fits a.1 in
     elim (chosen (ltb a.0.0 128) (Some a.0) (option_and_then (joined a.0.0) (groups_at most a.0.1)) (Some (n, rest)) a.2) [
       | inl here ↦
           let small : a.0.0 < 128 = ltb-true a.0.0 128 here.0 in
           let made : Takes bytes (groups (suc most) a.0.0) a.0.1 =
-              subst (λ (text : List ℕ). Takes bytes text a.0.1) (sym (groups_last most a.0.0 small)) first.0 in
+          subst (λ (text : List ℕ). Takes bytes text a.0.1) (sym (groups_last most a.0.0 small)) first.0 in
           let below : a.0.0 < 128 ^ suc most = omega (arith, power_step most, power_some most) in
           ended (λ (p : ℕ × List ℕ). Takes bytes (groups (suc most) p.0) p.1 × (p.0 < 128 ^ suc most)) a.0 (n, rest) here.1
           (made, below)
@@ -96,8 +96,11 @@ groups_again (suc most) n rest small =
       | inl last ↦ rw (groups_last (suc most) n last) (at_last (suc most) n rest last)
       | inr more ↦
           let part : n / 128 < 128 ^ suc most = omega (arith, power_step (suc most)) in
-          rw (groups_more (suc most) n more, at_more (suc most) (n % 128 + 128) (groups (suc most) (n / 128) ++ rest) (omega arith),
-          groups_again most (n / 128) rest part)
+          rw (
+            groups_more (suc most) n more,
+            at_more (suc most) (n % 128 + 128) (groups (suc most) (n / 128) ++ rest) (omega arith),
+            groups_again most (n / 128) rest part,
+          )
           (joined_again n rest more)
     ]
 
@@ -144,7 +147,7 @@ signed_takes bytes z rest fits e =
     let t = number_reader.takes bytes n a.0.1 fits a.1 in
     let same : n ≡ zigzag (unzigzag n) = sym (zigzag-unzigzag n) in
     let made : Takes bytes (number_bytes (zigzag (unzigzag n))) a.0.1 × IsShort (unzigzag n) =
-        subst (λ (k : ℕ). Takes bytes (number_bytes k) a.0.1 × (k < 2 ^ 63)) same t in
+    subst (λ (k : ℕ). Takes bytes (number_bytes k) a.0.1 × (k < 2 ^ 63)) same t in
     ended (λ (p : ℤ × List ℕ). Takes bytes (number_bytes (zigzag p.0)) p.1 × IsShort p.0) (unzigzag n, a.0.1) (z, rest) a.2 made
 
 -- a whole number is read again

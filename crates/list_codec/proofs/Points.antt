@@ -44,7 +44,7 @@ pub point_takes : (before : PointValue) (bytes : List ℕ) (p : PointValue) (res
 unfolding point_at point_bytes
 point_takes before bytes p rest fits e =
     let a = bind_some (signed_at bytes)
-        (λ across. signed_at across.1 >>= λ down. point_of (before.x +ℤ across.0) (before.y +ℤ down.0) down.1) (p, rest) e in
+    (λ across. signed_at across.1 >>= λ down. point_of (before.x +ℤ across.0) (before.y +ℤ down.0) down.1) (p, rest) e in
     let b = bind_some (signed_at a.0.1) (λ down. point_of (before.x +ℤ a.0.0) (before.y +ℤ down.0) down.1) (p, rest) a.2 in
     let across = a.0.0 in
     let down = b.0.0 in
@@ -55,14 +55,14 @@ point_takes before bytes p rest fits e =
     let second = signed_takes a.0.1 down b.0.1 first.0.rest_fits b.1 in
     let both = Takes-then bytes (signed_bytes across) a.0.1 (signed_bytes down) b.0.1 first.0 second.0 in
     let text : signed_bytes across ++ signed_bytes down
-        ≡ signed_bytes (made.x -ℤ before.x) ++ signed_bytes (made.y -ℤ before.y) =
-        ap (λ (z : ℤ). signed_bytes z ++ signed_bytes down) (sym (from_there before.x across))
-        ∙ ap (λ (z : ℤ). signed_bytes (made.x -ℤ before.x) ++ signed_bytes z) (sym (from_there before.y down)) in
+    ≡ signed_bytes (made.x -ℤ before.x) ++ signed_bytes (made.y -ℤ before.y) =
+    ap (λ (z : ℤ). signed_bytes z ++ signed_bytes down) (sym (from_there before.x across))
+    ∙ ap (λ (z : ℤ). signed_bytes (made.x -ℤ before.x) ++ signed_bytes z) (sym (from_there before.y down)) in
     let taken : Takes bytes (signed_bytes (made.x -ℤ before.x) ++ signed_bytes (made.y -ℤ before.y)) b.0.1 =
-        subst (λ (t : List ℕ). Takes bytes t b.0.1) text both in
+    subst (λ (t : List ℕ). Takes bytes t b.0.1) text both in
     let plane : IsOnPlane made = record { x = ltb-true _ _ tests.0; y = ltb-true _ _ tests.1 } in
     subst (λ (q : PointValue × List ℕ). Takes bytes (signed_bytes (q.0.x -ℤ before.x) ++ signed_bytes (q.0.y -ℤ before.y)) q.1
-        × IsOnPlane q.0) g.1 (taken, plane)
+    × IsOnPlane q.0) g.1 (taken, plane)
 
 -- a point of the plane is given back
 point_of_again : (px py : ℤ) (rest : List ℕ) → unsigned_abs px < 2 ^ 44 → unsigned_abs py < 2 ^ 44
@@ -77,9 +77,14 @@ point_again before p rest there here =
     let across = p.x -ℤ before.x in
     let down = p.y -ℤ before.y in
     let regrouped : (signed_bytes across ++ signed_bytes down) ++ rest ≡ signed_bytes across ++ (signed_bytes down ++ rest) =
-        append_assoc (signed_bytes across) (signed_bytes down) rest in
-    rw (regrouped, signed_again across (signed_bytes down ++ rest) (near before.x p.x there.x here.x),
-    signed_again down rest (near before.y p.y there.y here.y), to_there before.x p.x, to_there before.y p.y)
+    append_assoc (signed_bytes across) (signed_bytes down) rest in
+    rw (
+      regrouped,
+      signed_again across (signed_bytes down ++ rest) (near before.x p.x there.x here.x),
+      signed_again down rest (near before.y p.y there.y here.y),
+      to_there before.x p.x,
+      to_there before.y p.y,
+    )
     (point_of_again p.x p.y rest here.x here.y)
 
 -- points, each told from the one before
@@ -92,13 +97,13 @@ points_take zero before bytes ps rest fits e =
     ([], bytes) (ps, rest) e (record { parts = refl; rest_fits = fits }, refl, tt)
 points_take (suc count) before bytes ps rest fits e =
     let a = bind_some (point_at before bytes)
-        (λ first. points_at count first.0 first.1 >>= λ others. Some (first.0 ∷ others.0, others.1)) (ps, rest) e in
+    (λ first. points_at count first.0 first.1 >>= λ others. Some (first.0 ∷ others.0, others.1)) (ps, rest) e in
     let b = bind_some (points_at count a.0.0 a.0.1) (λ others. Some (a.0.0 ∷ others.0, others.1)) (ps, rest) a.2 in
     let first = point_takes before bytes a.0.0 a.0.1 fits a.1 in
     let others = points_take count a.0.0 a.0.1 b.0.0 b.0.1 first.0.rest_fits b.1 in
     let both = Takes-then bytes (point_bytes before a.0.0) a.0.1 (points_bytes a.0.0 b.0.0) b.0.1 first.0 others.0 in
     ended (λ (q : List PointValue × List ℕ). Takes bytes (points_bytes before q.0) q.1 × (length q.0 ≡ suc count)
-        × AllByRecursion IsOnPlane q.0)
+    × AllByRecursion IsOnPlane q.0)
     (a.0.0 ∷ b.0.0, b.0.1) (ps, rest) b.2 (both, ap suc others.1, (first.1, others.2))
 
 -- points are read again
@@ -108,7 +113,7 @@ unfolding points_at points_bytes
 points_again [] before rest there here = refl
 points_again (p ∷ ps) before rest there here =
     let regrouped : (point_bytes before p ++ points_bytes p ps) ++ rest ≡ point_bytes before p ++ (points_bytes p ps ++ rest) =
-        append_assoc (point_bytes before p) (points_bytes p ps) rest in
+    append_assoc (point_bytes before p) (points_bytes p ps) rest in
     rw (regrouped, point_again before p (points_bytes p ps ++ rest) there here.0, points_again ps p rest here.0 here.1) refl
 
 -- the origin is a point of the plane
@@ -123,17 +128,18 @@ ring_takes bytes ring rest fits e =
     let a = bind_some (number_at bytes) (λ count. points_at count.0 origin count.1) (ring, rest) e in
     let first = number_reader.takes bytes a.0.0 a.0.1 fits a.1 in
     let others = points_take a.0.0 origin a.0.1 ring rest first.0.rest_fits a.2 in
-    let both = Takes-then bytes (number_bytes a.0.0) a.0.1 (points_bytes origin ring) rest first.0 others.0 in
-    (subst (λ (k : ℕ). Takes bytes (number_bytes k ++ points_bytes origin ring) rest) (sym others.1) both,
-    record { few = omega (arith, first.1, others.1); points = others.2 })
+    let both = Takes-then bytes (number_bytes a.0.0) a.0.1 (points_bytes origin ring) rest first.0 others.0 in (
+      subst (λ (k : ℕ). Takes bytes (number_bytes k ++ points_bytes origin ring) rest) (sym others.1) both,
+      record { few = omega (arith, first.1, others.1); points = others.2 },
+    )
 
 -- a ring is read again
 ring_again : (ring : List PointValue) (rest : List ℕ) → IsRing ring → ring_at (ring_bytes ring ++ rest) ≡ Some (ring, rest)
 unfolding ring_at ring_bytes
 ring_again ring rest fits =
     let regrouped : (number_bytes (length ring) ++ points_bytes origin ring) ++ rest
-        ≡ number_bytes (length ring) ++ (points_bytes origin ring ++ rest) =
-        append_assoc (number_bytes (length ring)) (points_bytes origin ring) rest in
+    ≡ number_bytes (length ring) ++ (points_bytes origin ring ++ rest) =
+    append_assoc (number_bytes (length ring)) (points_bytes origin ring) rest in
     rw (regrouped, number_reader.again (length ring) (points_bytes origin ring ++ rest) fits.few)
     (points_again ring origin rest origin_on_plane fits.points)
 
@@ -147,9 +153,9 @@ disc_takes : (bytes : List ℕ) (d : DiscValue) (rest : List ℕ) → IsBytes by
 unfolding disc_at disc_bytes
 disc_takes bytes d rest fits e =
     let a = bind_some (signed_at bytes) (λ across. signed_at across.1 >>= λ down. number_at down.1 >>= λ radius.
-        disc_of across.0 down.0 radius.0 radius.1) (d, rest) e in
+    disc_of across.0 down.0 radius.0 radius.1) (d, rest) e in
     let b = bind_some (signed_at a.0.1) (λ down. number_at down.1 >>= λ radius. disc_of a.0.0 down.0 radius.0 radius.1)
-        (d, rest) a.2 in
+    (d, rest) a.2 in
     let c = bind_some (number_at b.0.1) (λ radius. disc_of a.0.0 b.0.0 radius.0 radius.1) (d, rest) b.2 in
     let made : DiscValue = record { x = a.0.0; y = b.0.0; r = c.0.0 } in
     let g = guard_yes (is_within made.x && is_within made.y && ltb made.r (2 ^ 44)) (made, c.0.1) (d, rest) c.2 in
@@ -174,13 +180,17 @@ disc_again : (d : DiscValue) (rest : List ℕ) → IsDisc d → disc_at (disc_by
 unfolding disc_at disc_bytes
 disc_again d rest fits =
     let regrouped : (signed_bytes d.x ++ (signed_bytes d.y ++ number_bytes d.r)) ++ rest
-        ≡ signed_bytes d.x ++ (signed_bytes d.y ++ (number_bytes d.r ++ rest)) =
-        append_assoc (signed_bytes d.x) (signed_bytes d.y ++ number_bytes d.r) rest
-        ∙ ap (λ (t : List ℕ). signed_bytes d.x ++ t) (append_assoc (signed_bytes d.y) (number_bytes d.r) rest) in
+    ≡ signed_bytes d.x ++ (signed_bytes d.y ++ (number_bytes d.r ++ rest)) =
+    append_assoc (signed_bytes d.x) (signed_bytes d.y ++ number_bytes d.r) rest
+    ∙ ap (λ (t : List ℕ). signed_bytes d.x ++ t) (append_assoc (signed_bytes d.y) (number_bytes d.r) rest) in
     let across : IsShort d.x = omega (arith, zigzag_small d.x, fits.x) in
     let down : IsShort d.y = omega (arith, zigzag_small d.y, fits.y) in
-    rw (regrouped, signed_again d.x (signed_bytes d.y ++ (number_bytes d.r ++ rest)) across,
-    signed_again d.y (number_bytes d.r ++ rest) down, number_reader.again d.r rest (omega (arith, fits.r)))
+    rw (
+      regrouped,
+      signed_again d.x (signed_bytes d.y ++ (number_bytes d.r ++ rest)) across,
+      signed_again d.y (number_bytes d.r ++ rest) down,
+      number_reader.again d.r rest (omega (arith, fits.r)),
+    )
     (disc_of_again d rest fits)
 
 -- a disc

@@ -112,10 +112,10 @@ region_takes : (bytes : List ℕ) (region : RegionValue) (rest : List ℕ) → I
 unfolding region_at region_bytes
 region_takes bytes region rest fits e =
     let a = bind_some (rule_at bytes)
-        (λ rule. counted_at ring_at rule.1 >>= λ rings. Some (record { rule = rule.0; rings = rings.0 }, rings.1))
-        (region, rest) e in
+    (λ rule. counted_at ring_at rule.1 >>= λ rings. Some (record { rule = rule.0; rings = rings.0 }, rings.1))
+    (region, rest) e in
     let b = bind_some (counted_at ring_at a.0.1) (λ rings. Some (record { rule = a.0.0; rings = rings.0 }, rings.1))
-        (region, rest) a.2 in
+    (region, rest) a.2 in
     let made : RegionValue = record { rule = a.0.0; rings = b.0.0 } in
     let first = rule_takes bytes a.0.0 a.0.1 fits a.1 in
     let others = rings_take a.0.1 b.0.0 b.0.1 first.rest_fits b.1 in

@@ -28,7 +28,6 @@ IsDraw (brief.Image index) = ⊥
 IsDraw (brief.Mask index) = ⊥
 
 infixl 10 ◌>>=◌
-
 -- the second step on what the first one read
 abbrev pub ◌>>=◌ : {A B : Type 0} → Option A → (A → Option B) → Option B
 read >>= f = option_and_then f read
