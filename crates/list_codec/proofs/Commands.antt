@@ -1,6 +1,6 @@
 -- Commands: one that is read is the one that was put, and none is read where none was put.
 use Rattle.std.proofs.Common.{◌≡◌, ℕ, ◌+◌, ◌-◌, ◌^◌, ◌<◌, ◌≤◌, Bool, true, false, cond, eqb, List, [], ◌∷◌, ◌++◌, length, take, drop}
-use Rattle.std.proofs.Common.{Option, Some, None, refl, sym, ap, subst, ◌∙◌, append_assoc, arith, inl, inr}
+use Rattle.std.proofs.Common.{Option, Some, None, refl, sym, ap, subst, ◌∙◌, append_assoc, arith, inl, inr, ◌⊎◌}
 use Rattle.std.specs.Prelude.{option_and_then}
 use Rattle.std.proofs.lemmas.Bool.{eqb-true}
 use Rattle.std.proofs.lemmas.List.{take-append-drop, length-append, length-take, take_at}
@@ -11,7 +11,7 @@ use Rattle.page_model.specs.declared.shape.Shape.{Shape}
 use Rattle.page_model.specs.Marking.{RegionValue}
 use Rattle.list_codec.specs.Command.{CmdValue, Inked, Clipped, Drawn, Pictured, Masked, IsCmd, AreFew, IsShape}
 use Rattle.list_codec.specs.Spelling.{cmd_bytes, ink_bytes, regions_bytes, rule_byte, shapes_bytes, number_bytes}
-use Rattle.list_codec.specs.Lists.{IsFront, HasNoFront}
+use Rattle.list_codec.specs.Lists.{IsFront, HasNoFront, TellsParts}
 use Rattle.list_codec.specs.Code.Reading.{◌>>=◌, byte_at, ink_at, rule_at, counted_at, region_at, shape_at, index_at}
 use Rattle.list_codec.specs.Code.Reading.{inked_at, clipped_at, drawn_at, pictured_at, masked_at, cmd_of, cmd_at}
 use Rattle.list_codec.proofs.Fronts.{IsBytes, Takes, Takes-then, bind_some, chosen, ended, byte_takes, Reader}
@@ -152,6 +152,13 @@ cmd_again (Masked index) rest fits = rw (index_reader.again index rest fits) ref
 -- a command
 pub cmd_reader : Reader cmd_at cmd_bytes IsCmd
 cmd_reader = record { takes = cmd_takes; again = cmd_again }
+
+-- a tag of a clip or of shapes is the first byte
+pub tells_parts : (bytes rest : List ℕ) (tag : ℕ) → byte_at bytes ≡ Some (tag, rest) → (tag ≡ 2) ⊎ (tag ≡ 3) → TellsParts bytes
+tells_parts [] rest tag e which = absurd cc
+tells_parts (b ∷ bytes) rest tag e which =
+    let same = some_pair_parts b tag bytes rest e in
+    elim which [ | inl two ↦ inl (same.0 ∙ two) | inr three ↦ inr (same.0 ∙ three) ]
 
 -- a command that is read is the front of the bytes
 pub is_front : (bytes rest : List ℕ) (cmd : CmdValue) → IsBytes bytes → cmd_at bytes ≡ Some (cmd, rest)

@@ -2,6 +2,7 @@
 use Rattle.std.proofs.Common.{◌≡◌, ℕ, zero, suc, ◌+◌, ◌-◌, ◌*◌, ◌/◌, ◌%◌, ◌^◌, ◌<◌, ◌≤◌, Bool, true, false, cond, ltb, eqb}
 use Rattle.std.proofs.Common.{List, [], ◌∷◌, ◌++◌, Option, Some, None, refl, sym, ap, subst, ◌∙◌, arith, inl, inr}
 use Rattle.std.specs.Prelude.{option_and_then, ℤ, pos, negsuc, unsigned_abs}
+use Rattle.std.proofs.Math.Nat.{pow-succ'}
 use Rattle.std.proofs.lemmas.Bool.{cases_lt, ltb-true, ltb-false, lt-ltb, le-ltb, eqb-false, eqb-true, eq-eqb, ne_eqb}
 use Rattle.list_codec.specs.Spelling.{groups, number_bytes, zigzag, signed_bytes}
 use Rattle.list_codec.specs.Code.Reading.{◌>>=◌, byte_at, joined, groups_at, number_at, unzigzag, signed_at}
@@ -30,7 +31,7 @@ at_more most low rest large = rw (le-ltb low 128 large) refl
 
 -- a power of 128 and the next
 pub power_step : (most : ℕ) → 128 ^ suc most ≡ 128 * 128 ^ most
-power_step most = omega (arith, pow-suc)
+power_step most = pow-succ' 128 most
 
 -- a power of 128 isn't 0
 power_some : (most : ℕ) → 1 ≤ 128 ^ most

@@ -14,8 +14,12 @@ use press_nums::Wide;
 pub fn point_at(before: Point, bytes: &[u8]) -> Option<(Point, &[u8])>
     ensures { Reads (λ x. (x.0, x.1.now)) result (point_at before bytes.now) }
 {
-    let (across, rest) = signed_at(bytes)?;
-    let (down, rest) = signed_at(rest)?;
+    let Some((across, rest)) = signed_at(bytes) else {
+        return None;
+    };
+    let Some((down, rest)) = signed_at(rest) else {
+        return None;
+    };
     let x = before.wide_x() + across;
     let y = before.wide_y() + down;
     if !is_within(x) || !is_within(y) {
@@ -36,8 +40,12 @@ fn is_within(z: Wide) -> bool
 pub fn disc_at(bytes: &[u8]) -> Option<(Disc, &[u8])>
     ensures { Reads (λ x. (x.0, x.1.now)) result (disc_at bytes.now) }
 {
-    let (x, rest) = signed_at(bytes)?;
-    let (y, rest) = signed_at(rest)?;
+    let Some((x, rest)) = signed_at(bytes) else {
+        return None;
+    };
+    let Some((y, rest)) = signed_at(rest) else {
+        return None;
+    };
     let (r, rest) = number_at(rest)?;
     if !is_within(x) || !is_within(y) || r >= 1 << 44 {
         return None;
@@ -77,7 +85,9 @@ pub fn ink_at(bytes: &[u8]) -> Option<(Ink, &[u8])>
 {
     let (channels, rest) = byte_at(bytes)?;
     let (place, rest) = number_at(rest)?;
-    let (code, rest) = code_at(channels, rest)?;
+    let Some((code, rest)) = code_at(channels, rest) else {
+        return None;
+    };
     if place == 0 {
         return Some((Ink::Plain(code), rest));
     }

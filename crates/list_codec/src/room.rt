@@ -1,9 +1,9 @@
 //! Reading a command.
-ghost use Rattle.std.specs.Prelude.{◌≡◌, List, IfOk, OnErr, IfSome, IfNone, [], ok_or};
+ghost use Rattle.std.specs.Prelude.{◌≡◌, ◌≢◌, List, IfOk, OnErr, IfSome, IfNone, []};
 ghost use Rattle.page_model.specs.declared.shape.Shape.{Shape as AnyShape};
 ghost use Rattle.list_codec.specs.Command.{cmd_value, brief_value};
 ghost use Rattle.list_codec.specs.Lists.{IsFront, HasNoFront, TellsParts};
-ghost use Rattle.list_codec.specs.Code.Reading.{Reads, Gives, cmd_at, inked_at, clipped_at, drawn_at, pictured_at};
+ghost use Rattle.list_codec.specs.Code.Reading.{Gives, cmd_at, inked_at, clipped_at, drawn_at, pictured_at};
 ghost use Rattle.list_codec.specs.Code.Reading.{masked_at, IsDraw};
 
 use crate::cmd::{Brief, Cmd};
@@ -119,29 +119,25 @@ fn read_brief<'b>(
         return Err(Misread::NoCommand);
     };
     match tag {
-        1 => or_none(flat_at(rest)),
+        1 => flat_at(rest),
         2 => clip_at(spare, rest),
         3 => draw_at(spare, shapes, rest),
-        4 => or_none(image_at(rest)),
-        5 => or_none(mask_at(rest)),
+        4 => image_at(rest),
+        5 => mask_at(rest),
         _ => Err(Misread::NoCommand),
     }
 }
 
-/// What was read without memory.
-fn or_none(read: Option<(Brief, &[u8])>) -> Result<(Brief, &[u8]), Misread>
-    ensures { result ≡ ok_or read Misread.NoCommand }
-{
-    read.ok_or(Misread::NoCommand)
-}
-
 #[tactic(auto, unfolding(crate::specs::Code::Reading::inked_at))]
-fn flat_at(bytes: &[u8]) -> Option<(Brief, &[u8])>
-    ensures { (shapes : List AnyShape) →
-        Reads (λ x. (brief_value x.0 shapes, x.1.now)) result (inked_at bytes.now) }
+fn flat_at(bytes: &[u8]) -> Result<(Brief, &[u8]), Misread>
+    ensures value { (shapes : List AnyShape) →
+        Gives (λ x. (brief_value x.0 shapes, x.1.now)) result (inked_at bytes.now) }
+    ensures memory { result ≢ Err Misread.NoMemory }
 {
-    let (ink, rest) = ink_at(bytes)?;
-    Some((Brief::Flat(ink), rest))
+    match ink_at(bytes) {
+        Some((ink, rest)) => Ok((Brief::Flat(ink), rest)),
+        None => Err(Misread::NoCommand),
+    }
 }
 
 #[tactic(auto, unfolding(crate::specs::Code::Reading::clipped_at))]
@@ -170,19 +166,25 @@ fn draw_at<'b>(
 }
 
 #[tactic(auto, unfolding(crate::specs::Code::Reading::pictured_at))]
-fn image_at(bytes: &[u8]) -> Option<(Brief, &[u8])>
-    ensures { (shapes : List AnyShape) →
-        Reads (λ x. (brief_value x.0 shapes, x.1.now)) result (pictured_at bytes.now) }
+fn image_at(bytes: &[u8]) -> Result<(Brief, &[u8]), Misread>
+    ensures value { (shapes : List AnyShape) →
+        Gives (λ x. (brief_value x.0 shapes, x.1.now)) result (pictured_at bytes.now) }
+    ensures memory { result ≢ Err Misread.NoMemory }
 {
-    let (index, rest) = index_at(bytes)?;
-    Some((Brief::Image(index), rest))
+    match index_at(bytes) {
+        Some((index, rest)) => Ok((Brief::Image(index), rest)),
+        None => Err(Misread::NoCommand),
+    }
 }
 
 #[tactic(auto, unfolding(crate::specs::Code::Reading::masked_at))]
-fn mask_at(bytes: &[u8]) -> Option<(Brief, &[u8])>
-    ensures { (shapes : List AnyShape) →
-        Reads (λ x. (brief_value x.0 shapes, x.1.now)) result (masked_at bytes.now) }
+fn mask_at(bytes: &[u8]) -> Result<(Brief, &[u8]), Misread>
+    ensures value { (shapes : List AnyShape) →
+        Gives (λ x. (brief_value x.0 shapes, x.1.now)) result (masked_at bytes.now) }
+    ensures memory { result ≢ Err Misread.NoMemory }
 {
-    let (index, rest) = index_at(bytes)?;
-    Some((Brief::Mask(index), rest))
+    match index_at(bytes) {
+        Some((index, rest)) => Ok((Brief::Mask(index), rest)),
+        None => Err(Misread::NoCommand),
+    }
 }
