@@ -1,3 +1,0 @@
-pub mod Bands
-pub mod Listing
-pub mod Parts
