@@ -2,7 +2,7 @@
 use Rattle.std.proofs.Common.{◌≡◌, ℕ, zero, suc, ◌+◌, ◌-◌, ◌*◌, ◌/◌, ◌%◌, ◌^◌, ◌<◌, ◌≤◌, Bool, true, false, cond, ltb, eqb}
 use Rattle.std.proofs.Common.{List, [], ◌∷◌, ◌++◌, Option, Some, None, refl, sym, ap, subst, ◌∙◌, arith, inl, inr}
 use Rattle.std.specs.Prelude.{option_and_then, ℤ, pos, negsuc, unsigned_abs}
-use Rattle.std.proofs.Math.Nat.{pow-succ'}
+use Rattle.std.proofs.Math.Nat.{pow-succ', pow-le-pow_right}
 use Rattle.std.proofs.lemmas.Bool.{cases_lt, ltb-true, ltb-false, lt-ltb, le-ltb, eqb-false, eqb-true, eq-eqb, ne_eqb}
 use Rattle.list_codec.specs.Spelling.{groups, number_bytes, zigzag, signed_bytes}
 use Rattle.list_codec.specs.Code.Reading.{◌>>=◌, byte_at, joined, groups_at, number_at, unzigzag, signed_at}
@@ -37,6 +37,25 @@ power_step most = pow-succ' 128 most
 power_some : (most : ℕ) → 1 ≤ 128 ^ most
 power_some zero = omega arith
 power_some (suc most) = omega (arith, power_step most, power_some most)
+
+-- a last group is below each power but the first
+pub last_small : (most low n : ℕ) → 0 < most → low < 128 → n ≡ low → n < 128 ^ most
+last_small zero low n some small same = absurd (omega arith)
+last_small (suc most) low n some small same = omega (arith, power_step most, power_some most)
+
+-- a group and those after it stay below the next power
+pub more_small : (most low high n : ℕ) → 0 < most → low < 256 → high < 128 ^ (most - 1) → n ≡ low - 128 + 128 * high
+    → n < 128 ^ most
+more_small zero low high n some byte small same = absurd (omega arith)
+more_small (suc most) low high n some byte small same =
+    let same_power : suc most - 1 ≡ most = omega arith in
+    let below : high < 128 ^ most = subst (λ (k : ℕ). high < 128 ^ k) same_power small in omega (arith, power_step most)
+
+-- what at most eight groups give is below 2^56
+pub high_small : (most high : ℕ) → most ≤ 9 → high < 128 ^ (most - 1) → high < 2 ^ 56
+high_small most high few small =
+    let most_of_all : 128 ^ (most - 1) ≤ 128 ^ 8 = pow-le-pow_right {n = 128} (omega arith) {i = most - 1} {j = 8} (omega arith) in
+    omega (arith, small, most_of_all)
 
 -- a low group joined with the number of those after it
 more_takes : (most low high n : ℕ) (bytes after rest last : List ℕ) → Takes bytes (low ∷ []) after → low < 256 → 128 ≤ low

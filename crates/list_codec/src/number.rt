@@ -6,7 +6,8 @@ use press_nums::Wide;
 
 /// The first byte, and those after it.
 pub fn byte_at(bytes: &[u8]) -> Option<(u8, &[u8])>
-    ensures { Reads (λ x. (x.0, x.1.now)) result (byte_at bytes.now) }
+    ensures bound { IfSome result (λ x. x.0 < 256) }
+    ensures value { Reads (λ x. (x.0, x.1.now)) result (byte_at bytes.now) }
 {
     match bytes {
         [] => None,
