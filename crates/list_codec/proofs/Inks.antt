@@ -79,7 +79,7 @@ behind_four a b c d (suc (suc (suc (suc k)))) h = refl
 -- the bytes of a code were taken, which has so many channels
 record TakesCode (channels : ℕ) (bytes : List ℕ) (read : CodeValue × List ℕ) : Type 0 where
   taken : Takes bytes (take read.0.n read.0.c) read.1
-  channels : read.0.n ≡ channels
+  counted : read.0.n ≡ channels
   whole : IsWholeCode read.0
 
 -- a code of one channel
@@ -91,9 +91,9 @@ gray_takes bytes code rest fits e =
     let made : CodeValue = record { n = 1; c = a.0.0 ∷ 0 ∷ 0 ∷ 0 ∷ [] } in
     ended (TakesCode 1 bytes) (made, a.0.1) (code, rest) a.2 (record {
       taken = first.0;
-      channels = refl;
+      counted = refl;
       whole = record {
-        code = record { count = inl refl; unused = behind_one a.0.0 };
+        channels = record { count = inl refl; unused = behind_one a.0.0 };
         places = refl;
         bytes = four_bytes a.0.0 0 0 0 first.1 (omega arith) (omega arith) (omega arith);
       };
@@ -117,9 +117,9 @@ rgb_takes bytes code rest fits e =
     let made : CodeValue = record { n = 3; c = a.0.0 ∷ b.0.0 ∷ c.0.0 ∷ 0 ∷ [] } in
     ended (TakesCode 3 bytes) (made, c.0.1) (code, rest) c.2 (record {
       taken = all;
-      channels = refl;
+      counted = refl;
       whole = record {
-        code = record { count = inr (inl refl); unused = behind_three a.0.0 b.0.0 c.0.0 };
+        channels = record { count = inr (inl refl); unused = behind_three a.0.0 b.0.0 c.0.0 };
         places = refl;
         bytes = four_bytes a.0.0 b.0.0 c.0.0 0 first.1 second.1 third.1 (omega arith);
       };
@@ -148,9 +148,9 @@ cmyk_takes bytes code rest fits e =
     let made : CodeValue = record { n = 4; c = a.0.0 ∷ b.0.0 ∷ c.0.0 ∷ d.0.0 ∷ [] } in
     ended (TakesCode 4 bytes) (made, d.0.1) (code, rest) d.2 (record {
       taken = all;
-      channels = refl;
+      counted = refl;
       whole = record {
-        code = record { count = inr (inr refl); unused = behind_four a.0.0 b.0.0 c.0.0 d.0.0 };
+        channels = record { count = inr (inr refl); unused = behind_four a.0.0 b.0.0 c.0.0 d.0.0 };
         places = refl;
         bytes = four_bytes a.0.0 b.0.0 c.0.0 d.0.0 first.1 second.1 third.1 fourth.1;
       };
@@ -238,7 +238,7 @@ ink_takes bytes ink rest fits e =
     let code : CodeValue = c.0.0 in
     let later = Takes-then a.0.1 (number_bytes b.0.0) b.0.1 (take code.n code.c) c.0.1 second.0 third.taken in
     let all : Takes bytes (code.n ∷ (number_bytes b.0.0 ++ take code.n code.c)) c.0.1 =
-    tagged a.0.0 code.n bytes a.0.1 (number_bytes b.0.0 ++ take code.n code.c) c.0.1 first.0 (sym third.channels) later in
+    tagged a.0.0 code.n bytes a.0.1 (number_bytes b.0.0 ++ take code.n code.c) c.0.1 first.0 (sym third.counted) later in
     elim (chosen (eqb b.0.0 0) (Some (Plain code, c.0.1))
     (cond (ltb (b.0.0 - 1) (2 ^ 32)) (Some (Linked (b.0.0 - 1) code, c.0.1)) None) (Some (ink, rest)) c.2) [
       | inl none ↦
@@ -266,7 +266,7 @@ placed_again place code rest small whole =
     rw (
       regrouped,
       number_reader.again place (take code.n code.c ++ rest) small,
-      code_again code.n code.c rest whole.code whole.places,
+      code_again code.n code.c rest whole.channels whole.places,
     ) refl
 
 -- an ink is read again

@@ -42,7 +42,7 @@ brief_value (brief.Mask index) shapes = Masked index
 
 -- a code has four places, each of them a byte; those that its channels leave are 0
 pub record IsWholeCode (code : CodeValue) : Type 0 where
-  pub code : IsCode code.n code.c
+  pub channels : IsCode code.n code.c
   pub places : length code.c ≡ 4
   pub bytes : (k : ℕ) → slice_index code.c k < 256
 

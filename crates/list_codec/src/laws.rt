@@ -1,5 +1,5 @@
 //! Laws of the spelling: functions without code, whose contracts are the laws.
-ghost use Rattle.std.specs.Prelude.{◌≡◌, ℕ, List, ◌++◌};
+ghost use Rattle.std.specs.Prelude.{◌≡◌, ℕ, List, ◌++◌, length};
 ghost use Rattle.list_codec.specs.Command.{CmdValue, IsCmd};
 ghost use Rattle.list_codec.specs.Spelling.{cmd_bytes};
 ghost use Rattle.list_codec.specs.Lists.{IsFront};
