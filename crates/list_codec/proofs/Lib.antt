@@ -7,3 +7,4 @@ pub mod Shapes
 pub mod Commands
 pub mod Loops
 pub mod Appending
+pub mod Bounds

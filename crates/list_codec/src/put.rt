@@ -1,7 +1,10 @@
 //! Spelling commands at the end of bytes.
 ghost use Rattle.std.specs.Prelude.{◌≡◌, ◌<◌, ◌≤◌, ◌^◌, ◌++◌, ◌∷◌, [], length, take, OnOk, OnErr, unsigned_abs};
 ghost use Rattle.std.specs.Arc.{arc_value};
+ghost use Rattle.press_fault.specs.Plane.{IsOnPlane};
+ghost use Rattle.page_model.specs.Disc.{IsDisc};
 ghost use Rattle.list_codec.specs.Command.{cmd_value, Inked, Clipped, Drawn, Pictured, Masked, IsCmd};
+ghost use Rattle.list_codec.specs.Command.{AreFew, IsRing, IsShape, IsRegion};
 ghost use Rattle.list_codec.specs.Spelling.{cmd_bytes, number_bytes, signed_bytes, zigzag, point_bytes, points_bytes};
 ghost use Rattle.list_codec.specs.Spelling.{ring_bytes, rings_bytes, disc_bytes, shape_bytes, shapes_bytes, region_bytes};
 ghost use Rattle.list_codec.specs.Spelling.{regions_bytes, rule_byte, ink_bytes, ink_code, source_place, origin};
@@ -16,7 +19,7 @@ use press_nums::Wide;
 pub fn put_cmd(to: &mut Vec<u8>, cmd: &Cmd) -> Mem<()>
     ensures ok { OnOk result (to.new.items ≡ to.old.items ++ cmd_bytes (cmd_value cmd.now)) }
     ensures err { OnErr result (to.new.items ≡ to.old.items) }
-    ensures command { IsCmd (cmd_value cmd.now) }
+    ensures command { OnOk result (IsCmd (cmd_value cmd.now)) }
 {
     match cmd {
         Cmd::Flat(ink) => put_flat(to, *ink),
@@ -42,7 +45,7 @@ pub fn put_flat(to: &mut Vec<u8>, ink: Ink) -> Mem<()>
 pub fn put_clip(to: &mut Vec<u8>, clip: &Clip) -> Mem<()>
     ensures ok { OnOk result (to.new.items ≡ to.old.items ++ cmd_bytes (Clipped clip.now)) }
     ensures err { OnErr result (to.new.items ≡ to.old.items) }
-    ensures command { IsCmd (Clipped clip.now) }
+    ensures command { OnOk result (IsCmd (Clipped clip.now)) }
 {
     let kept = to.len();
     let put = spell_clip(to, clip.items());
@@ -53,7 +56,7 @@ pub fn put_clip(to: &mut Vec<u8>, clip: &Clip) -> Mem<()>
 pub fn put_draw(to: &mut Vec<u8>, rule: Rule, shapes: &Shapes) -> Mem<()>
     ensures ok { OnOk result (to.new.items ≡ to.old.items ++ cmd_bytes (Drawn rule shapes.now)) }
     ensures err { OnErr result (to.new.items ≡ to.old.items) }
-    ensures command { IsCmd (Drawn rule shapes.now) }
+    ensures command { OnOk result (IsCmd (Drawn rule shapes.now)) }
 {
     let kept = to.len();
     let put = spell_draw(to, rule, shapes.items());
@@ -104,7 +107,8 @@ fn spell_flat(to: &mut Vec<u8>, ink: Ink) -> Mem<()>
 
 #[tactic(auto, unfolding(crate::specs::Spelling::cmd_bytes))]
 fn spell_clip(to: &mut Vec<u8>, regions: &[Region]) -> Mem<()>
-    ensures { Appends result to.old.items (cmd_bytes (Clipped regions.now)) to.new.items }
+    ensures text { Appends result to.old.items (cmd_bytes (Clipped regions.now)) to.new.items }
+    ensures fits { OnOk result (AreFew IsRegion regions.now) }
 {
     to.push(2)?;
     put_regions(to, regions)
@@ -112,7 +116,8 @@ fn spell_clip(to: &mut Vec<u8>, regions: &[Region]) -> Mem<()>
 
 #[tactic(auto, unfolding(crate::specs::Spelling::cmd_bytes))]
 fn spell_draw(to: &mut Vec<u8>, rule: Rule, shapes: &[Shape]) -> Mem<()>
-    ensures { Appends result to.old.items (cmd_bytes (Drawn rule shapes.now)) to.new.items }
+    ensures text { Appends result to.old.items (cmd_bytes (Drawn rule shapes.now)) to.new.items }
+    ensures fits { OnOk result (AreFew IsShape shapes.now) }
 {
     to.push(3)?;
     to.push(rule_byte(rule))?;
@@ -169,7 +174,8 @@ fn put_code(to: &mut Vec<u8>, place: u64, code: Code) -> Mem<()>
 
 #[tactic(auto, unfolding(crate::specs::Spelling::regions_bytes))]
 fn put_regions(to: &mut Vec<u8>, regions: &[Region]) -> Mem<()>
-    ensures { Appends result to.old.items (regions_bytes regions.now) to.new.items }
+    ensures text { Appends result to.old.items (regions_bytes regions.now) to.new.items }
+    ensures fits { OnOk result (AreFew IsRegion regions.now) }
 {
     put_number(to, regions.len() as u64)?;
     for region in regions {
@@ -180,7 +186,8 @@ fn put_regions(to: &mut Vec<u8>, regions: &[Region]) -> Mem<()>
 
 #[tactic(auto, unfolding(crate::specs::Spelling::region_bytes))]
 fn put_region(to: &mut Vec<u8>, region: &Region) -> Mem<()>
-    ensures { Appends result to.old.items (region_bytes region.now) to.new.items }
+    ensures text { Appends result to.old.items (region_bytes region.now) to.new.items }
+    ensures fits { OnOk result (IsRegion region.now) }
 {
     to.push(rule_byte(region.rule))?;
     put_rings(to, region.rings.items())
@@ -188,7 +195,8 @@ fn put_region(to: &mut Vec<u8>, region: &Region) -> Mem<()>
 
 #[tactic(auto, unfolding(crate::specs::Spelling::shapes_bytes))]
 fn put_shapes(to: &mut Vec<u8>, shapes: &[Shape]) -> Mem<()>
-    ensures { Appends result to.old.items (shapes_bytes shapes.now) to.new.items }
+    ensures text { Appends result to.old.items (shapes_bytes shapes.now) to.new.items }
+    ensures fits { OnOk result (AreFew IsShape shapes.now) }
 {
     put_number(to, shapes.len() as u64)?;
     for shape in shapes {
@@ -199,7 +207,8 @@ fn put_shapes(to: &mut Vec<u8>, shapes: &[Shape]) -> Mem<()>
 
 #[tactic(auto, unfolding(crate::specs::Spelling::shape_bytes))]
 fn put_shape(to: &mut Vec<u8>, shape: &Shape) -> Mem<()>
-    ensures { Appends result to.old.items (shape_bytes shape.now) to.new.items }
+    ensures text { Appends result to.old.items (shape_bytes shape.now) to.new.items }
+    ensures fits { OnOk result (IsShape shape.now) }
 {
     match shape {
         Shape::Poly(rings) => {
@@ -215,7 +224,8 @@ fn put_shape(to: &mut Vec<u8>, shape: &Shape) -> Mem<()>
 
 #[tactic(auto, unfolding(crate::specs::Spelling::disc_bytes))]
 fn put_disc(to: &mut Vec<u8>, disc: Disc) -> Mem<()>
-    ensures { Appends result to.old.items (disc_bytes disc) to.new.items }
+    ensures text { Appends result to.old.items (disc_bytes disc) to.new.items }
+    ensures fits { OnOk result (IsDisc disc) }
 {
     put_signed(to, disc.wide_x())?;
     put_signed(to, disc.wide_y())?;
@@ -224,7 +234,8 @@ fn put_disc(to: &mut Vec<u8>, disc: Disc) -> Mem<()>
 
 #[tactic(auto, unfolding(crate::specs::Spelling::rings_bytes))]
 fn put_rings(to: &mut Vec<u8>, rings: &[Ring]) -> Mem<()>
-    ensures { Appends result to.old.items (rings_bytes rings.now) to.new.items }
+    ensures text { Appends result to.old.items (rings_bytes rings.now) to.new.items }
+    ensures fits { OnOk result (AreFew IsRing rings.now) }
 {
     put_number(to, rings.len() as u64)?;
     for ring in rings {
@@ -235,7 +246,8 @@ fn put_rings(to: &mut Vec<u8>, rings: &[Ring]) -> Mem<()>
 
 #[tactic(auto, unfolding(crate::specs::Spelling::ring_bytes))]
 fn put_ring(to: &mut Vec<u8>, ring: &[Point]) -> Mem<()>
-    ensures { Appends result to.old.items (ring_bytes ring.now) to.new.items }
+    ensures text { Appends result to.old.items (ring_bytes ring.now) to.new.items }
+    ensures fits { OnOk result (IsRing ring.now) }
 {
     put_number(to, ring.len() as u64)?;
     put_points(to, ring)
@@ -243,7 +255,8 @@ fn put_ring(to: &mut Vec<u8>, ring: &[Point]) -> Mem<()>
 
 /// Puts the points of a ring, each by how far it lies from the one before.
 fn put_points(to: &mut Vec<u8>, ring: &[Point]) -> Mem<()>
-    ensures { Appends result to.old.items (points_bytes origin ring.now) to.new.items }
+    ensures text { Appends result to.old.items (points_bytes origin ring.now) to.new.items }
+    ensures fits { OnOk result (IsRing ring.now) }
 {
     let mut before = Point { x: 0, y: 0 };
     for point in ring {
@@ -255,7 +268,8 @@ fn put_points(to: &mut Vec<u8>, ring: &[Point]) -> Mem<()>
 
 #[tactic(auto, unfolding(crate::specs::Spelling::point_bytes))]
 fn put_point(to: &mut Vec<u8>, before: &Point, point: &Point) -> Mem<()>
-    ensures { Appends result to.old.items (point_bytes before.now point.now) to.new.items }
+    ensures text { Appends result to.old.items (point_bytes before.now point.now) to.new.items }
+    ensures fits { OnOk result (IsOnPlane point.now) }
 {
     put_signed(to, point.wide_x() - before.wide_x())?;
     put_signed(to, point.wide_y() - before.wide_y())

@@ -5,7 +5,7 @@ use Rattle.list_codec.proofs.spare.Spare.rings_in.Goals as goal
 
 pub returns-in_err-ring : goal.returns-in_err-ring
 returns-in_err-ring c =
-    let p = err_from_is_err_and c.from_residual.result c.from_residual.ensures.1 in
+    let p = err_from_is_err_and c.from_residual-in_err-ring.result c.from_residual-in_err-ring.ensures.1 in
     rw (p.1, p.2)
     (ends ring_at c.in_err-ring.field-0.0 c.loop.rings c.args.count c.loop.counter c.loop.rest.now
     (many_at ring_at c.args.count c.args.bytes.now) c.loop-test.true c.in_err-ring.ensures c.loop.invariant)
