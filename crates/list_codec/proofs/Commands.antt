@@ -1,15 +1,10 @@
 -- Commands: one that is read is the one that was put, and none is read where none was put.
-use Rattle.std.proofs.Common.{◌≡◌, ℕ, ◌+◌, ◌-◌, ◌^◌, ◌<◌, ◌≤◌, Bool, true, false, cond, eqb, List, [], ◌∷◌, ◌++◌, length, take, drop}
-use Rattle.std.proofs.Common.{Option, Some, None, refl, sym, ap, subst, ◌∙◌, append_assoc, arith, inl, inr, ◌⊎◌}
-use Rattle.std.specs.Prelude.{option_and_then}
+use Rattle.std.proofs.Common.{◌≡◌, ℕ, ◌+◌, ◌-◌, true, cond, eqb, List, [], ◌∷◌, ◌++◌, length, take, drop}
+use Rattle.std.proofs.Common.{Some, None, refl, sym, ap, subst, ◌∙◌, arith, inl, inr, ◌⊎◌}
 use Rattle.std.proofs.lemmas.Bool.{eqb-true}
 use Rattle.std.proofs.lemmas.List.{take-append-drop, length-append, length-take, take_at}
 use Rattle.std.proofs.lemmas.Option.{some_pair_parts, none-some}
-use Rattle.page_model.specs.declared.mark.Ink.{Ink}
-use Rattle.page_model.specs.declared.shape.Rule.{Rule}
-use Rattle.page_model.specs.declared.shape.Shape.{Shape}
-use Rattle.page_model.specs.Marking.{RegionValue}
-use Rattle.list_codec.specs.Command.{CmdValue, Inked, Clipped, Drawn, Pictured, Masked, IsCmd, AreFew, IsShape}
+use Rattle.list_codec.specs.Command.{CmdValue, Inked, Clipped, Drawn, Pictured, Masked, IsCmd}
 use Rattle.list_codec.specs.Spelling.{cmd_bytes, ink_bytes, regions_bytes, rule_byte, shapes_bytes, number_bytes}
 use Rattle.list_codec.specs.Lists.{IsFront, HasNoFront, TellsParts}
 use Rattle.list_codec.specs.Code.Reading.{◌>>=◌, byte_at, ink_at, rule_at, counted_at, region_at, shape_at, index_at}
@@ -158,7 +153,7 @@ pub tells_parts : (bytes rest : List ℕ) (tag : ℕ) → byte_at bytes ≡ Some
 tells_parts [] rest tag e which = absurd cc
 tells_parts (b ∷ bytes) rest tag e which =
     let same = some_pair_parts b tag bytes rest e in
-    elim which [ | inl two ↦ inl (same.0 ∙ two) | inr three ↦ inr (same.0 ∙ three) ]
+    elim which [ inl two ↦ inl (same.0 ∙ two) | inr three ↦ inr (same.0 ∙ three) ]
 
 -- a command that is read is the front of the bytes
 pub is_front : (bytes rest : List ℕ) (cmd : CmdValue) → IsBytes bytes → cmd_at bytes ≡ Some (cmd, rest)

@@ -1,12 +1,10 @@
 -- Reading items one after the other, as a loop does.
-use Rattle.std.proofs.Common.{◌≡◌, ℕ, zero, suc, ◌+◌, ◌-◌, ◌<◌, ◌≤◌, List, [], ◌∷◌, ◌++◌, Option, Some, None, refl, sym, ap, ◌∙◌}
+use Rattle.std.proofs.Common.{◌≡◌, ℕ, suc, ◌+◌, ◌-◌, ◌<◌, ◌≤◌, List, [], ◌∷◌, ◌++◌, Option, Some, None, refl, sym, ap, ◌∙◌}
 use Rattle.std.proofs.Common.{append_assoc, arith}
-use Rattle.std.specs.Prelude.{option_and_then}
 use Rattle.std.proofs.lemmas.List.{append-nil}
 use Rattle.press_fault.specs.Plane.{PointValue}
 use Rattle.list_codec.specs.declared.misread.Misread.{Misread}
 use Rattle.list_codec.specs.declared.misread.Misread.TheVariants.{NoMemory, NoCommand}
-use Rattle.list_codec.specs.Spelling.{origin}
 use Rattle.list_codec.specs.Code.Reading.{◌>>=◌, Fails, many_at, point_at, points_at}
 
 -- what was read before, and what is still read

@@ -1,24 +1,20 @@
 -- Shapes and regions: those that are read are those that were put.
-use Rattle.std.proofs.Common.{◌≡◌, ℕ, ◌^◌, ◌<◌, Bool, true, false, cond, eqb, List, [], ◌∷◌, ◌++◌, length, Option, Some, None, refl}
-use Rattle.std.proofs.Common.{sym, ap, subst, ◌∙◌, append_assoc, arith, inl, inr}
-use Rattle.std.specs.Prelude.{option_and_then}
-use Rattle.std.specs.List.{flat_map}
+use Rattle.std.proofs.Common.{◌≡◌, ℕ, cond, eqb, List, [], ◌∷◌, ◌++◌, Some, None, refl}
+use Rattle.std.proofs.Common.{subst, inl, inr}
 use Rattle.std.proofs.lemmas.Bool.{eqb-true}
 use Rattle.press_fault.specs.Plane.{PointValue}
-use Rattle.page_model.specs.Disc.{DiscValue}
 use Rattle.page_model.specs.Marking.{RegionValue}
-use Rattle.page_model.specs.declared.shape.Rule.{Rule}
 use Rattle.page_model.specs.declared.shape.Shape.{Shape}
 use Rattle.page_model.specs.declared.shape.Shape.TheVariants.{Poly, Disc}
 use Rattle.list_codec.specs.Command.{AreFew, IsRing, IsShape, IsRegion}
 use Rattle.list_codec.specs.Spelling.{rule_byte, ring_bytes, rings_bytes, shape_bytes, shapes_bytes, region_bytes, regions_bytes}
-use Rattle.list_codec.specs.Spelling.{disc_bytes, number_bytes}
+use Rattle.list_codec.specs.Spelling.{disc_bytes}
 use Rattle.list_codec.specs.Code.Reading.{◌>>=◌, byte_at, counted_at, ring_at, disc_at, poly_at, round_at, shape_of, shape_at}
 use Rattle.list_codec.specs.Code.Reading.{rule_at, region_at}
-use Rattle.list_codec.proofs.Fronts.{IsBytes, Takes, Takes-then, bind_some, chosen, guard_yes, ended, byte_takes, Reader}
+use Rattle.list_codec.proofs.Fronts.{IsBytes, Takes, Takes-then, bind_some, chosen, ended, byte_takes, Reader}
 use Rattle.list_codec.proofs.Points.{ring_reader, disc_reader}
 use Rattle.list_codec.proofs.Many.{counted_takes, counted_again}
-use Rattle.list_codec.proofs.Inks.{tagged, rule_takes, rule_again}
+use Rattle.list_codec.proofs.Inks.{rule_takes, rule_again}
 
 -- rings that are read are spelled so
 rings_take : (bytes : List ℕ) (rings : List (List PointValue)) (rest : List ℕ) → IsBytes bytes

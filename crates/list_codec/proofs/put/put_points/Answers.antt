@@ -1,9 +1,8 @@
-use Rattle.std.proofs.Common.{◌≡◌, ℕ, ◌+◌, ◌<◌, ◌≤◌, List, [], ◌∷◌, ◌++◌, length, get_or, drop, refl, sym, ap, ◌∙◌, append_assoc, arith}
+use Rattle.std.proofs.Common.{◌≡◌, ℕ, ◌+◌, ◌<◌, ◌≤◌, List, ◌∷◌, ◌++◌, length, get_or, drop, refl, sym, ap, ◌∙◌, append_assoc, arith}
 use Rattle.std.proofs.lemmas.List.{append-nil, at_drop_more, at_drop_all}
 use Rattle.std.proofs.lemmas.Result.{err_from_is_err_and}
 use Rattle.press_fault.specs.Plane.{PointValue, IsOnPlane}
 use Rattle.list_codec.specs.Spelling.{points_bytes, point_bytes, origin}
-use Rattle.list_codec.specs.Code.Appending.{BeginsWith}
 use Rattle.list_codec.proofs.Appending.{begins_same, begins_put, begins_through}
 use Rattle.list_codec.proofs.Bounds.{all_more, all_done}
 use Rattle.list_codec.proofs.put.put_points.Goals as goal

@@ -1,4 +1,4 @@
-use Rattle.std.proofs.Common.{◌≡◌, ℕ, zero, suc, List, [], ◌∷◌, take, inl, inr}
+use Rattle.std.proofs.Common.{◌≡◌, ℕ, zero, suc, List, [], ◌∷◌, take, inr}
 use Rattle.std.specs.Prelude.{Result, Ok, Err, OnErr}
 use Rattle.page_model.specs.declared.shape.Shape.{Shape}
 use Rattle.list_codec.specs.declared.cmd.Brief.{Brief}
