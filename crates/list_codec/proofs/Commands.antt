@@ -63,7 +63,8 @@ drawn_takes bytes after read first e =
     })
 
 -- an image
-pictured_takes : (bytes after : List ℕ) (read : CmdValue × List ℕ) → HasTag bytes 4 after → pictured_at after ≡ Some read
+pictured_takes : (bytes after : List ℕ) (read : CmdValue × List ℕ) → HasTag bytes 4 after
+    → pictured_at after ≡ Some read
     → TakesCmd bytes read
 unfolding pictured_at cmd_bytes
 pictured_takes bytes after read first e =
@@ -87,7 +88,8 @@ masked_takes bytes after read first e =
     })
 
 -- the tag of which it is
-known : (bytes after : List ℕ) (tag which : ℕ) → Takes bytes (tag ∷ []) after → eqb tag which ≡ true → HasTag bytes which after
+known : (bytes after : List ℕ) (tag which : ℕ) → Takes bytes (tag ∷ []) after → eqb tag which ≡ true
+    → HasTag bytes which after
 known bytes after tag which first test =
     record { taken = subst (λ (k : ℕ). Takes bytes (k ∷ []) after) (eqb-true tag which test) first }
 
@@ -149,7 +151,8 @@ pub cmd_reader : Reader cmd_at cmd_bytes IsCmd
 cmd_reader = record { takes = cmd_takes; again = cmd_again }
 
 -- a tag of a clip or of shapes is the first byte
-pub tells_parts : (bytes rest : List ℕ) (tag : ℕ) → byte_at bytes ≡ Some (tag, rest) → (tag ≡ 2) ⊎ (tag ≡ 3) → TellsParts bytes
+pub tells_parts : (bytes rest : List ℕ) (tag : ℕ) → byte_at bytes ≡ Some (tag, rest) → (tag ≡ 2) ⊎ (tag ≡ 3)
+    → TellsParts bytes
 tells_parts [] rest tag e which = absurd cc
 tells_parts (b ∷ bytes) rest tag e which =
     let same = some_pair_parts b tag bytes rest e in
@@ -182,12 +185,14 @@ one_front a b after_a after_b fits_a fits_b same =
     (sym (cmd_again a after_a fits_a) ∙ ap cmd_at same ∙ cmd_again b after_b fits_b)
 
 -- what is found at the front of a spelling is its command
-pub put_is_read : (put read : CmdValue) (after : List ℕ) (count : ℕ) → IsCmd put → IsFront (cmd_bytes put ++ after) read count
+pub put_is_read : (put read : CmdValue) (after : List ℕ) (count : ℕ) → IsCmd put
+    → IsFront (cmd_bytes put ++ after) read count
     → (read ≡ put) × (count ≡ length (cmd_bytes put))
 put_is_read put read after count fits front =
     let whole = cmd_bytes put ++ after in
     let parts : cmd_bytes read ++ drop count whole ≡ whole =
     ap (λ (t : List ℕ). t ++ drop count whole) (sym front.spelled) ∙ take-append-drop count whole in
     let same = one_front read put (drop count whole) after front.command fits parts in
-    let long : length (take count whole) ≡ length (cmd_bytes put) = ap length front.spelled ∙ ap (λ c. length (cmd_bytes c)) same.0 in
+    let long : length (take count whole) ≡ length (cmd_bytes put) = ap length front.spelled
+    ∙ ap (λ c. length (cmd_bytes c)) same.0 in
     (same.0, omega (arith, length-take count whole, front.inside, long))

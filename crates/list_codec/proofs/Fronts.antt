@@ -1,5 +1,6 @@
 -- What a reader takes from the front of bytes.
-use Rattle.std.proofs.Common.{◌≡◌, ℕ, suc, ◌<◌, Bool, true, false, cond, List, [], ◌∷◌, ◌++◌, get_or, Option, Some, None}
+use Rattle.std.proofs.Common.{◌≡◌, ℕ, suc, ◌<◌, Bool, true, false, cond, List, [], ◌∷◌, ◌++◌, get_or, Option, Some}
+use Rattle.std.proofs.Common.{None}
 use Rattle.std.proofs.Common.{refl, sym, ap, subst, ◌∙◌, append_assoc, inl, inr, ◌⊎◌}
 use Rattle.std.specs.Prelude.{option_and_then}
 use Rattle.std.proofs.lemmas.Option.{same_Some}
@@ -59,7 +60,8 @@ byte_takes (b ∷ bytes) byte rest fits e =
     (record { parts = refl; rest_fits = IsBytes-rest b bytes fits }, fits 0)
 
 -- a reader takes just the spelling of what it reads, and reads what is spelled, whatever follows
-pub record Reader {A : Type 0} (item : List ℕ → Option (A × List ℕ)) (spelled : A → List ℕ) (Fits : A → Type 0) : Type 0 where
+pub record Reader {A : Type 0} (item : List ℕ → Option (A × List ℕ)) (spelled : A → List ℕ) (Fits : A → Type 0) :
+    Type 0 where
   pub takes : (bytes : List ℕ) (a : A) (rest : List ℕ) → IsBytes bytes → item bytes ≡ Some (a, rest)
       → Takes bytes (spelled a) rest × Fits a
   pub again : (a : A) (rest : List ℕ) → Fits a → item (spelled a ++ rest) ≡ Some (a, rest)

@@ -1,6 +1,7 @@
 -- Rules, inks and places of images: those that are read are those that were put.
 use Rattle.std.proofs.Common.{◌≡◌, ℕ, zero, suc, ◌+◌, ◌-◌, ◌^◌, ◌<◌, ◌≤◌, false, cond, ltb, eqb, List, [], ◌∷◌}
-use Rattle.std.proofs.Common.{◌++◌, length, get_or, take, Some, None, refl, sym, subst, ◌∙◌, append_assoc, arith, inl, inr}
+use Rattle.std.proofs.Common.{◌++◌, length, get_or, take, Some, None, refl, sym, subst, ◌∙◌, append_assoc, arith, inl}
+use Rattle.std.proofs.Common.{inr}
 use Rattle.std.proofs.lemmas.Bool.{ltb-true, lt-ltb, eqb-false, eqb-true, ne_eqb}
 use Rattle.press_fault.specs.Plane.{CodeValue, IsCode}
 use Rattle.page_model.specs.declared.mark.Ink.{Ink}
@@ -9,13 +10,16 @@ use Rattle.page_model.specs.declared.shape.Rule.{Rule}
 use Rattle.page_model.specs.declared.shape.Rule.TheVariants.{Nonzero, EvenOdd}
 use Rattle.list_codec.specs.Command.{IsWholeCode, IsInk}
 use Rattle.list_codec.specs.Spelling.{number_bytes, rule_byte, ink_bytes}
-use Rattle.list_codec.specs.Code.Reading.{◌>>=◌, byte_at, number_at, rule_of, rule_at, gray_at, rgb_at, cmyk_at, code_at, ink_of}
+use Rattle.list_codec.specs.Code.Reading.{◌>>=◌, byte_at, number_at, rule_of, rule_at, gray_at, rgb_at, cmyk_at}
+use Rattle.list_codec.specs.Code.Reading.{code_at, ink_of}
 use Rattle.list_codec.specs.Code.Reading.{ink_at, index_of, index_at}
-use Rattle.list_codec.proofs.Fronts.{IsBytes, Takes, Takes-then, bind_some, chosen, guard_yes, ended, byte_takes, Reader}
+use Rattle.list_codec.proofs.Fronts.{IsBytes, Takes, Takes-then, bind_some, chosen, guard_yes, ended, byte_takes}
+use Rattle.list_codec.proofs.Fronts.{Reader}
 use Rattle.list_codec.proofs.Numbers.{number_reader}
 
 -- a byte that tells something, and what follows it
-pub tagged : (tag known : ℕ) (bytes after text rest : List ℕ) → Takes bytes (tag ∷ []) after → tag ≡ known → Takes after text rest
+pub tagged : (tag known : ℕ) (bytes after text rest : List ℕ) → Takes bytes (tag ∷ []) after → tag ≡ known
+    → Takes after text rest
     → Takes bytes (known ∷ text) rest
 tagged tag known bytes after text rest first same others =
     subst (λ (k : ℕ). Takes bytes (k ∷ text) rest) same (Takes-then bytes (tag ∷ []) after text rest first others)
@@ -27,7 +31,8 @@ unfolding rule_at
 rule_takes bytes rule rest fits e =
     let a = bind_some (byte_at bytes) (λ byte. rule_of byte.0 byte.1) (rule, rest) e in
     let first = byte_takes bytes a.0.0 a.0.1 fits a.1 in
-    elim (chosen (eqb a.0.0 0) (Some (Nonzero, a.0.1)) (cond (eqb a.0.0 1) (Some (EvenOdd, a.0.1)) None) (Some (rule, rest)) a.2) [
+    elim (chosen (eqb a.0.0 0) (Some (Nonzero, a.0.1)) (cond (eqb a.0.0 1) (Some (EvenOdd, a.0.1)) None)
+    (Some (rule, rest)) a.2) [
       | inl here ↦
           ended (λ (q : Rule × List ℕ). Takes bytes (rule_byte q.0 ∷ []) q.1) (Nonzero, a.0.1) (rule, rest) here.1
           (subst (λ (k : ℕ). Takes bytes (k ∷ []) a.0.1) (eqb-true a.0.0 0 here.0) first.0)
@@ -85,7 +90,8 @@ record TakesCode (channels : ℕ) (bytes : List ℕ) (read : CodeValue × List �
 gray_takes : (bytes : List ℕ) (code : CodeValue) (rest : List ℕ) → IsBytes bytes → gray_at bytes ≡ Some (code, rest)
     → TakesCode 1 bytes (code, rest)
 gray_takes bytes code rest fits e =
-    let a = bind_some (byte_at bytes) (λ gray. Some (record { n = 1; c = gray.0 ∷ 0 ∷ 0 ∷ 0 ∷ [] }, gray.1)) (code, rest) e in
+    let a = bind_some (byte_at bytes) (λ gray. Some (record { n = 1; c = gray.0 ∷ 0 ∷ 0 ∷ 0 ∷ [] }, gray.1))
+    (code, rest) e in
     let first = byte_takes bytes a.0.0 a.0.1 fits a.1 in
     let made : CodeValue = record { n = 1; c = a.0.0 ∷ 0 ∷ 0 ∷ 0 ∷ [] } in
     ended (TakesCode 1 bytes) (made, a.0.1) (code, rest) a.2 (record {
@@ -135,7 +141,8 @@ cmyk_takes bytes code rest fits e =
     Some (record { n = 4; c = a.0.0 ∷ magenta.0 ∷ yellow.0 ∷ black.0 ∷ [] }, black.1)) (code, rest) a.2 in
     let c = bind_some (byte_at b.0.1) (λ yellow. byte_at yellow.1 >>= λ black.
     Some (record { n = 4; c = a.0.0 ∷ b.0.0 ∷ yellow.0 ∷ black.0 ∷ [] }, black.1)) (code, rest) b.2 in
-    let d = bind_some (byte_at c.0.1) (λ black. Some (record { n = 4; c = a.0.0 ∷ b.0.0 ∷ c.0.0 ∷ black.0 ∷ [] }, black.1))
+    let d = bind_some (byte_at c.0.1)
+    (λ black. Some (record { n = 4; c = a.0.0 ∷ b.0.0 ∷ c.0.0 ∷ black.0 ∷ [] }, black.1))
     (code, rest) c.2 in
     let first = byte_takes bytes a.0.0 a.0.1 fits a.1 in
     let second = byte_takes a.0.1 b.0.0 b.0.1 first.0.rest_fits b.1 in
@@ -167,9 +174,11 @@ code_takes channels bytes code rest fits e =
     elim (chosen (eqb channels 1) (gray_at bytes)
     (cond (eqb channels 3) (rgb_at bytes) (cond (eqb channels 4) (cmyk_at bytes) None)) (Some (code, rest)) e) [
       | inl one ↦
-          subst (λ (k : ℕ). TakesCode k bytes (code, rest)) (sym (eqb-true channels 1 one.0)) (gray_takes bytes code rest fits one.1)
+          subst (λ (k : ℕ). TakesCode k bytes (code, rest)) (sym (eqb-true channels 1 one.0))
+          (gray_takes bytes code rest fits one.1)
       | inr more ↦
-          elim (chosen (eqb channels 3) (rgb_at bytes) (cond (eqb channels 4) (cmyk_at bytes) None) (Some (code, rest)) more.1) [
+          elim (chosen (eqb channels 3) (rgb_at bytes) (cond (eqb channels 4) (cmyk_at bytes) None)
+          (Some (code, rest)) more.1) [
             | inl three ↦
                 subst (λ (k : ℕ). TakesCode k bytes (code, rest)) (sym (eqb-true channels 3 three.0))
                 (rgb_takes bytes code rest fits three.1)
@@ -226,7 +235,8 @@ ink_takes : (bytes : List ℕ) (ink : Ink) (rest : List ℕ) → IsBytes bytes �
     → Takes bytes (ink_bytes ink) rest × IsInk ink
 unfolding ink_at ink_bytes
 ink_takes bytes ink rest fits e =
-    let a = bind_some (byte_at bytes) (λ channels. number_at channels.1 >>= λ place. code_at channels.0 place.1 >>= λ code.
+    let a = bind_some (byte_at bytes)
+    (λ channels. number_at channels.1 >>= λ place. code_at channels.0 place.1 >>= λ code.
     ink_of place.0 code.0 code.1) (ink, rest) e in
     let b = bind_some (number_at a.0.1) (λ place. code_at a.0.0 place.1 >>= λ code. ink_of place.0 code.0 code.1)
     (ink, rest) a.2 in
@@ -237,12 +247,15 @@ ink_takes bytes ink rest fits e =
     let code : CodeValue = c.0.0 in
     let later = Takes-then a.0.1 (number_bytes b.0.0) b.0.1 (take code.n code.c) c.0.1 second.0 third.taken in
     let all : Takes bytes (code.n ∷ (number_bytes b.0.0 ++ take code.n code.c)) c.0.1 =
-    tagged a.0.0 code.n bytes a.0.1 (number_bytes b.0.0 ++ take code.n code.c) c.0.1 first.0 (sym third.counted) later in
+    tagged a.0.0 code.n bytes a.0.1 (number_bytes b.0.0 ++ take code.n code.c) c.0.1 first.0 (sym third.counted)
+    later in
     elim (chosen (eqb b.0.0 0) (Some (Plain code, c.0.1))
     (cond (ltb (b.0.0 - 1) (2 ^ 32)) (Some (Linked (b.0.0 - 1) code, c.0.1)) None) (Some (ink, rest)) c.2) [
       | inl none ↦
-          ended (λ (q : Ink × List ℕ). Takes bytes (ink_bytes q.0) q.1 × IsInk q.0) (Plain code, c.0.1) (ink, rest) none.1 (
-            subst (λ (k : ℕ). Takes bytes (code.n ∷ (number_bytes k ++ take code.n code.c)) c.0.1) (eqb-true b.0.0 0 none.0) all,
+          ended (λ (q : Ink × List ℕ). Takes bytes (ink_bytes q.0) q.1 × IsInk q.0) (Plain code, c.0.1) (ink, rest)
+          none.1 (
+            subst (λ (k : ℕ). Takes bytes (code.n ∷ (number_bytes k ++ take code.n code.c)) c.0.1)
+                (eqb-true b.0.0 0 none.0) all,
             third.whole,
           )
       | inr some ↦
@@ -260,7 +273,8 @@ placed_again : (place : ℕ) (code : CodeValue) (rest : List ℕ) → place < 2 
     → ink_at ((code.n ∷ (number_bytes place ++ take code.n code.c)) ++ rest) ≡ ink_of place code rest
 unfolding ink_at
 placed_again place code rest small whole =
-    let regrouped : (number_bytes place ++ take code.n code.c) ++ rest ≡ number_bytes place ++ (take code.n code.c ++ rest) =
+    let regrouped : (number_bytes place ++ take code.n code.c) ++ rest
+    ≡ number_bytes place ++ (take code.n code.c ++ rest) =
     append_assoc (number_bytes place) (take code.n code.c) rest in
     rw (
       regrouped,

@@ -1,5 +1,6 @@
 -- Reading items one after the other, as a loop does.
-use Rattle.std.proofs.Common.{◌≡◌, ℕ, suc, ◌+◌, ◌-◌, ◌<◌, ◌≤◌, List, [], ◌∷◌, ◌++◌, Option, Some, None, refl, sym, ap, ◌∙◌}
+use Rattle.std.proofs.Common.{◌≡◌, ℕ, suc, ◌+◌, ◌-◌, ◌<◌, ◌≤◌, List, [], ◌∷◌, ◌++◌, Option, Some, None, refl, sym, ap}
+use Rattle.std.proofs.Common.{◌∙◌}
 use Rattle.std.proofs.Common.{append_assoc, arith}
 use Rattle.std.proofs.lemmas.List.{append-nil}
 use Rattle.press_fault.specs.Plane.{PointValue}
@@ -31,7 +32,8 @@ goes_on item front count i bytes a after total more here so_far =
     sym one ∙ so_far
 
 -- an item can't be read
-pub ends : {A : Type 0} (item : List ℕ → Option (A × List ℕ)) (e : Misread) (front : List A) (count i : ℕ) (bytes : List ℕ)
+pub ends : {A : Type 0} (item : List ℕ → Option (A × List ℕ)) (e : Misread) (front : List A) (count i : ℕ)
+    (bytes : List ℕ)
     (total : Option (List A × List ℕ)) → i < count → Fails e (item bytes)
     → with_front front (many_at item (count - i) bytes) ≡ total → Fails e total
 unfolding many_at

@@ -36,7 +36,12 @@ many_again item spelled Fits reader [] rest fits = refl
 many_again item spelled Fits reader (a ∷ all) rest fits =
     let regrouped : (spelled a ++ flat_map spelled all) ++ rest ≡ spelled a ++ (flat_map spelled all ++ rest) =
     append_assoc (spelled a) (flat_map spelled all) rest in
-    rw (regrouped, reader.again a (flat_map spelled all ++ rest) fits.0, many_again item spelled Fits reader all rest fits.1) refl
+    rw (
+      regrouped,
+      reader.again a (flat_map spelled all ++ rest) fits.0,
+      many_again item spelled Fits reader all rest
+          fits.1,
+    ) refl
 
 -- a counted list that is read is spelled so
 pub counted_takes : {A : Type 0} (item : List ℕ → Option (A × List ℕ)) (spelled : A → List ℕ) (Fits : A → Type 0)

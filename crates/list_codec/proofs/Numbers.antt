@@ -6,7 +6,8 @@ use Rattle.std.proofs.Math.Nat.{pow-succ', pow-le-pow_right}
 use Rattle.std.proofs.lemmas.Bool.{cases_lt, ltb-true, ltb-false, lt-ltb, le-ltb, eqb-false, eq-eqb, ne_eqb}
 use Rattle.list_codec.specs.Spelling.{groups, number_bytes, zigzag, signed_bytes}
 use Rattle.list_codec.specs.Code.Reading.{byte_at, joined, groups_at, number_at, unzigzag, signed_at}
-use Rattle.list_codec.proofs.Fronts.{IsBytes, Takes, Takes-then, bind_some, chosen, guard_not, ended, byte_takes, Reader}
+use Rattle.list_codec.proofs.Fronts.{IsBytes, Takes, Takes-then, bind_some, chosen, guard_not, ended, byte_takes}
+use Rattle.list_codec.proofs.Fronts.{Reader}
 
 -- the last group stands for itself
 pub groups_last : (most n : ℕ) → n < 128 → groups (suc most) n ≡ n ∷ []
@@ -54,11 +55,13 @@ more_small (suc most) low high n some byte small same =
 -- what at most eight groups give is below 2^56
 pub high_small : (most high : ℕ) → most ≤ 9 → high < 128 ^ (most - 1) → high < 2 ^ 56
 high_small most high few small =
-    let most_of_all : 128 ^ (most - 1) ≤ 128 ^ 8 = pow-le-pow_right {n = 128} (omega arith) {i = most - 1} {j = 8} (omega arith) in
+    let most_of_all : 128 ^ (most - 1) ≤ 128 ^ 8 = pow-le-pow_right {n = 128} (omega arith) {i = most - 1} {j = 8}
+    (omega arith) in
     omega (arith, small, most_of_all)
 
 -- a low group joined with the number of those after it
-more_takes : (most low high n : ℕ) (bytes after rest last : List ℕ) → Takes bytes (low ∷ []) after → low < 256 → 128 ≤ low
+more_takes : (most low high n : ℕ) (bytes after rest last : List ℕ) → Takes bytes (low ∷ []) after → low < 256
+    → 128 ≤ low
     → Takes after (groups most high) last → high < 128 ^ most → joined low (high, last) ≡ Some (n, rest)
     → Takes bytes (groups (suc most) n) rest × (n < 128 ^ suc most)
 more_takes most low high n bytes after rest last first byte large others small e =
@@ -77,7 +80,8 @@ more_takes most low high n bytes after rest last first byte large others small e
     subst (λ (p : ℕ × List ℕ). Takes bytes (groups (suc most) p.0) p.1 × (p.0 < 128 ^ suc most)) g.1 (both, below)
 
 -- groups that are read are those of the number
-pub groups_takes : (most : ℕ) (bytes : List ℕ) (n : ℕ) (rest : List ℕ) → IsBytes bytes → groups_at most bytes ≡ Some (n, rest)
+pub groups_takes : (most : ℕ) (bytes : List ℕ) (n : ℕ) (rest : List ℕ) → IsBytes bytes
+    → groups_at most bytes ≡ Some (n, rest)
     → Takes bytes (groups most n) rest × (n < 128 ^ most)
 unfolding groups_at
 groups_takes zero bytes n rest fits e = absurd cc
@@ -85,18 +89,21 @@ groups_takes (suc most) bytes n rest fits e =
     let a = bind_some (byte_at bytes)
     (λ low. cond (ltb low.0 128) (Some low) (option_and_then (joined low.0) (groups_at most low.1))) (n, rest) e in
     let first = byte_takes bytes a.0.0 a.0.1 fits a.1 in
-    elim (chosen (ltb a.0.0 128) (Some a.0) (option_and_then (joined a.0.0) (groups_at most a.0.1)) (Some (n, rest)) a.2) [
+    elim (chosen (ltb a.0.0 128) (Some a.0) (option_and_then (joined a.0.0) (groups_at most a.0.1)) (Some (n, rest))
+    a.2) [
       | inl here ↦
           let small : a.0.0 < 128 = ltb-true a.0.0 128 here.0 in
           let made : Takes bytes (groups (suc most) a.0.0) a.0.1 =
           subst (λ (text : List ℕ). Takes bytes text a.0.1) (sym (groups_last most a.0.0 small)) first.0 in
           let below : a.0.0 < 128 ^ suc most = omega (arith, power_step most, power_some most) in
-          ended (λ (p : ℕ × List ℕ). Takes bytes (groups (suc most) p.0) p.1 × (p.0 < 128 ^ suc most)) a.0 (n, rest) here.1
+          ended (λ (p : ℕ × List ℕ). Takes bytes (groups (suc most) p.0) p.1 × (p.0 < 128 ^ suc most)) a.0 (n, rest)
+          here.1
           (made, below)
       | inr on ↦
           let b = bind_some (groups_at most a.0.1) (joined a.0.0) (n, rest) on.1 in
           let others = groups_takes most a.0.1 b.0.0 b.0.1 first.0.rest_fits b.1 in
-          more_takes most a.0.0 b.0.0 n bytes a.0.1 rest b.0.1 first.0 first.1 (ltb-false a.0.0 128 on.0) others.0 others.1 b.2
+          more_takes most a.0.0 b.0.0 n bytes a.0.1 rest b.0.1 first.0 first.1 (ltb-false a.0.0 128 on.0) others.0
+          others.1 b.2
     ]
 
 -- joining a low group with the number of the others
@@ -138,7 +145,8 @@ unzigzag-zigzag (pos n) =
     let even : eqb (2 * n % 2) 0 ≡ true = eq-eqb (2 * n % 2) 0 (omega arith) in
     let half : 2 * n / 2 ≡ n = omega arith in rw even (ap pos half)
 unzigzag-zigzag (negsuc n) =
-    let odd : eqb ((2 * n + 1) % 2) 0 ≡ false = ne_eqb ((2 * n + 1) % 2) 0 (λ (none : (2 * n + 1) % 2 ≡ 0). omega arith) in
+    let odd : eqb ((2 * n + 1) % 2) 0 ≡ false =
+    ne_eqb ((2 * n + 1) % 2) 0 (λ (none : (2 * n + 1) % 2 ≡ 0). omega arith) in
     let half : (2 * n + 1) / 2 ≡ n = omega arith in rw odd (ap negsuc half)
 
 -- the whole number that a number stands for has this number
@@ -168,7 +176,8 @@ signed_takes bytes z rest fits e =
     let same : n ≡ zigzag (unzigzag n) = sym (zigzag-unzigzag n) in
     let made : Takes bytes (number_bytes (zigzag (unzigzag n))) a.0.1 × IsShort (unzigzag n) =
     subst (λ (k : ℕ). Takes bytes (number_bytes k) a.0.1 × (k < 2 ^ 63)) same t in
-    ended (λ (p : ℤ × List ℕ). Takes bytes (number_bytes (zigzag p.0)) p.1 × IsShort p.0) (unzigzag n, a.0.1) (z, rest) a.2 made
+    ended (λ (p : ℤ × List ℕ). Takes bytes (number_bytes (zigzag p.0)) p.1 × IsShort p.0) (unzigzag n, a.0.1)
+    (z, rest) a.2 made
 
 -- a whole number is read again
 pub signed_again : (z : ℤ) (rest : List ℕ) → IsShort z → signed_at (signed_bytes z ++ rest) ≡ Some (z, rest)

@@ -8,8 +8,10 @@ use Rattle.std.proofs.lemmas.Int.{ints}
 use Rattle.press_fault.specs.Plane.{PointValue, IsOnPlane}
 use Rattle.page_model.specs.Disc.{DiscValue, IsDisc}
 use Rattle.list_codec.specs.Command.{IsRing}
-use Rattle.list_codec.specs.Spelling.{zigzag, number_bytes, signed_bytes, point_bytes, points_bytes, ring_bytes, disc_bytes, origin}
-use Rattle.list_codec.specs.Code.Reading.{◌>>=◌, number_at, signed_at, is_within, point_of, point_at, points_at, ring_at}
+use Rattle.list_codec.specs.Spelling.{zigzag, number_bytes, signed_bytes, point_bytes, points_bytes, ring_bytes}
+use Rattle.list_codec.specs.Spelling.{disc_bytes, origin}
+use Rattle.list_codec.specs.Code.Reading.{◌>>=◌, number_at, signed_at, is_within, point_of, point_at, points_at}
+use Rattle.list_codec.specs.Code.Reading.{ring_at}
 use Rattle.list_codec.specs.Code.Reading.{disc_of, disc_at}
 use Rattle.list_codec.proofs.Fronts.{IsBytes, Takes, Takes-then, bind_some, guard_yes, ended, Reader}
 use Rattle.list_codec.proofs.Numbers.{number_reader, IsShort, signed_takes, signed_again}
@@ -44,8 +46,10 @@ pub point_takes : (before : PointValue) (bytes : List ℕ) (p : PointValue) (res
 unfolding point_at point_bytes
 point_takes before bytes p rest fits e =
     let a = bind_some (signed_at bytes)
-    (λ across. signed_at across.1 >>= λ down. point_of (before.x +ℤ across.0) (before.y +ℤ down.0) down.1) (p, rest) e in
-    let b = bind_some (signed_at a.0.1) (λ down. point_of (before.x +ℤ a.0.0) (before.y +ℤ down.0) down.1) (p, rest) a.2 in
+    (λ across. signed_at across.1 >>= λ down. point_of (before.x +ℤ across.0) (before.y +ℤ down.0) down.1) (p, rest)
+    e in
+    let b = bind_some (signed_at a.0.1) (λ down. point_of (before.x +ℤ a.0.0) (before.y +ℤ down.0) down.1) (p, rest)
+    a.2 in
     let across = a.0.0 in
     let down = b.0.0 in
     let made : PointValue = record { x = before.x +ℤ across; y = before.y +ℤ down } in
@@ -61,7 +65,8 @@ point_takes before bytes p rest fits e =
     let taken : Takes bytes (signed_bytes (made.x -ℤ before.x) ++ signed_bytes (made.y -ℤ before.y)) b.0.1 =
     subst (λ (t : List ℕ). Takes bytes t b.0.1) text both in
     let plane : IsOnPlane made = record { x = ltb-true _ _ tests.0; y = ltb-true _ _ tests.1 } in
-    subst (λ (q : PointValue × List ℕ). Takes bytes (signed_bytes (q.0.x -ℤ before.x) ++ signed_bytes (q.0.y -ℤ before.y)) q.1
+    subst (λ (q : PointValue × List ℕ). Takes bytes
+    (signed_bytes (q.0.x -ℤ before.x) ++ signed_bytes (q.0.y -ℤ before.y)) q.1
     × IsOnPlane q.0) g.1 (taken, plane)
 
 -- a point of the plane is given back
@@ -76,7 +81,8 @@ unfolding point_at point_bytes
 point_again before p rest there here =
     let across = p.x -ℤ before.x in
     let down = p.y -ℤ before.y in
-    let regrouped : (signed_bytes across ++ signed_bytes down) ++ rest ≡ signed_bytes across ++ (signed_bytes down ++ rest) =
+    let regrouped : (signed_bytes across ++ signed_bytes down) ++ rest
+    ≡ signed_bytes across ++ (signed_bytes down ++ rest) =
     append_assoc (signed_bytes across) (signed_bytes down) rest in
     rw (
       regrouped,
@@ -88,12 +94,14 @@ point_again before p rest there here =
     (point_of_again p.x p.y rest here.x here.y)
 
 -- points, each told from the one before
-pub points_take : (count : ℕ) (before : PointValue) (bytes : List ℕ) (ps : List PointValue) (rest : List ℕ) → IsBytes bytes
+pub points_take : (count : ℕ) (before : PointValue) (bytes : List ℕ) (ps : List PointValue) (rest : List ℕ)
+    → IsBytes bytes
     → points_at count before bytes ≡ Some (ps, rest)
     → Takes bytes (points_bytes before ps) rest × (length ps ≡ count) × AllByRecursion IsOnPlane ps
 unfolding points_at points_bytes
 points_take zero before bytes ps rest fits e =
-    ended (λ (q : List PointValue × List ℕ). Takes bytes (points_bytes before q.0) q.1 × (length q.0 ≡ 0) × AllByRecursion IsOnPlane q.0)
+    ended (λ (q : List PointValue × List ℕ). Takes bytes (points_bytes before q.0) q.1 × (length q.0 ≡ 0)
+    × AllByRecursion IsOnPlane q.0)
     ([], bytes) (ps, rest) e (record { parts = refl; rest_fits = fits }, refl, tt)
 points_take (suc count) before bytes ps rest fits e =
     let a = bind_some (point_at before bytes)
@@ -107,21 +115,29 @@ points_take (suc count) before bytes ps rest fits e =
     (a.0.0 ∷ b.0.0, b.0.1) (ps, rest) b.2 (both, ap suc others.1, (first.1, others.2))
 
 -- points are read again
-pub points_again : (ps : List PointValue) (before : PointValue) (rest : List ℕ) → IsOnPlane before → AllByRecursion IsOnPlane ps
+pub points_again : (ps : List PointValue) (before : PointValue) (rest : List ℕ) → IsOnPlane before
+    → AllByRecursion IsOnPlane ps
     → points_at (length ps) before (points_bytes before ps ++ rest) ≡ Some (ps, rest)
 unfolding points_at points_bytes
 points_again [] before rest there here = refl
 points_again (p ∷ ps) before rest there here =
-    let regrouped : (point_bytes before p ++ points_bytes p ps) ++ rest ≡ point_bytes before p ++ (points_bytes p ps ++ rest) =
+    let regrouped : (point_bytes before p ++ points_bytes p ps) ++ rest
+    ≡ point_bytes before p ++ (points_bytes p ps ++ rest) =
     append_assoc (point_bytes before p) (points_bytes p ps) rest in
-    rw (regrouped, point_again before p (points_bytes p ps ++ rest) there here.0, points_again ps p rest here.0 here.1) refl
+    rw (
+      regrouped,
+      point_again before p (points_bytes p ps ++ rest) there here.0,
+      points_again ps p rest here.0
+          here.1,
+    ) refl
 
 -- the origin is a point of the plane
 pub origin_on_plane : IsOnPlane origin
 origin_on_plane = record { x = omega arith; y = omega arith }
 
 -- a ring that is read is spelled so
-ring_takes : (bytes : List ℕ) (ring : List PointValue) (rest : List ℕ) → IsBytes bytes → ring_at bytes ≡ Some (ring, rest)
+ring_takes : (bytes : List ℕ) (ring : List PointValue) (rest : List ℕ) → IsBytes bytes
+    → ring_at bytes ≡ Some (ring, rest)
     → Takes bytes (ring_bytes ring) rest × IsRing ring
 unfolding ring_at ring_bytes
 ring_takes bytes ring rest fits e =
@@ -134,7 +150,8 @@ ring_takes bytes ring rest fits e =
     )
 
 -- a ring is read again
-ring_again : (ring : List PointValue) (rest : List ℕ) → IsRing ring → ring_at (ring_bytes ring ++ rest) ≡ Some (ring, rest)
+ring_again : (ring : List PointValue) (rest : List ℕ) → IsRing ring
+    → ring_at (ring_bytes ring ++ rest) ≡ Some (ring, rest)
 unfolding ring_at ring_bytes
 ring_again ring rest fits =
     let regrouped : (number_bytes (length ring) ++ points_bytes origin ring) ++ rest
@@ -165,15 +182,23 @@ disc_takes bytes d rest fits e =
     let second = signed_takes a.0.1 b.0.0 b.0.1 first.0.rest_fits b.1 in
     let third = number_reader.takes b.0.1 c.0.0 c.0.1 second.0.rest_fits c.1 in
     let later = Takes-then a.0.1 (signed_bytes b.0.0) b.0.1 (number_bytes c.0.0) c.0.1 second.0 third.0 in
-    let all = Takes-then bytes (signed_bytes a.0.0) a.0.1 (signed_bytes b.0.0 ++ number_bytes c.0.0) c.0.1 first.0 later in
-    let bounds : IsDisc made = record { x = ltb-true _ _ inner.0; y = ltb-true _ _ inner.1; r = ltb-true _ _ outer.1 } in
-    subst (λ (q : DiscValue × List ℕ). Takes bytes (signed_bytes q.0.x ++ (signed_bytes q.0.y ++ number_bytes q.0.r)) q.1 × IsDisc q.0)
+    let all = Takes-then bytes (signed_bytes a.0.0) a.0.1 (signed_bytes b.0.0 ++ number_bytes c.0.0) c.0.1 first.0
+    later in
+    let bounds : IsDisc made = record
+    { x = ltb-true _ _ inner.0; y = ltb-true _ _ inner.1; r = ltb-true _ _ outer.1 } in
+    subst (λ (q : DiscValue × List ℕ). Takes bytes (signed_bytes q.0.x ++ (signed_bytes q.0.y ++ number_bytes q.0.r))
+    q.1 × IsDisc q.0)
     g.1 (all, bounds)
 
 -- a disc within its bounds is given back
 disc_of_again : (d : DiscValue) (rest : List ℕ) → IsDisc d → disc_of d.x d.y d.r rest ≡ Some (d, rest)
 disc_of_again d rest fits =
-    rw (lt-ltb (unsigned_abs d.x) (2 ^ 44) fits.x, lt-ltb (unsigned_abs d.y) (2 ^ 44) fits.y, lt-ltb d.r (2 ^ 44) fits.r) refl
+    rw (
+      lt-ltb (unsigned_abs d.x) (2 ^ 44) fits.x,
+      lt-ltb (unsigned_abs d.y) (2 ^ 44) fits.y,
+      lt-ltb d.r (2 ^ 44)
+          fits.r,
+    ) refl
 
 -- a disc is read again
 disc_again : (d : DiscValue) (rest : List ℕ) → IsDisc d → disc_at (disc_bytes d ++ rest) ≡ Some (d, rest)

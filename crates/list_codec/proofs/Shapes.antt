@@ -7,9 +7,11 @@ use Rattle.page_model.specs.Marking.{RegionValue}
 use Rattle.page_model.specs.declared.shape.Shape.{Shape}
 use Rattle.page_model.specs.declared.shape.Shape.TheVariants.{Poly, Disc}
 use Rattle.list_codec.specs.Command.{AreFew, IsRing, IsShape, IsRegion}
-use Rattle.list_codec.specs.Spelling.{rule_byte, ring_bytes, rings_bytes, shape_bytes, shapes_bytes, region_bytes, regions_bytes}
+use Rattle.list_codec.specs.Spelling.{rule_byte, ring_bytes, rings_bytes, shape_bytes, shapes_bytes, region_bytes}
+use Rattle.list_codec.specs.Spelling.{regions_bytes}
 use Rattle.list_codec.specs.Spelling.{disc_bytes}
-use Rattle.list_codec.specs.Code.Reading.{◌>>=◌, byte_at, counted_at, ring_at, disc_at, poly_at, round_at, shape_of, shape_at}
+use Rattle.list_codec.specs.Code.Reading.{◌>>=◌, byte_at, counted_at, ring_at, disc_at, poly_at, round_at, shape_of}
+use Rattle.list_codec.specs.Code.Reading.{shape_at}
 use Rattle.list_codec.specs.Code.Reading.{rule_at, region_at}
 use Rattle.list_codec.proofs.Fronts.{IsBytes, Takes, Takes-then, bind_some, chosen, ended, byte_takes, Reader}
 use Rattle.list_codec.proofs.Points.{ring_reader, disc_reader}
@@ -39,7 +41,8 @@ unfolding poly_at shape_bytes
 poly_takes bytes shape rest after fits first e =
     let a = bind_some (counted_at ring_at after) (λ rings. Some (Poly rings.0, rings.1)) (shape, rest) e in
     let others = rings_take after a.0.0 a.0.1 fits a.1 in
-    ended (λ (q : Shape × List ℕ). Takes bytes (shape_bytes q.0) q.1 × IsShape q.0) (Poly a.0.0, a.0.1) (shape, rest) a.2
+    ended (λ (q : Shape × List ℕ). Takes bytes (shape_bytes q.0) q.1 × IsShape q.0) (Poly a.0.0, a.0.1) (shape, rest)
+    a.2
     (Takes-then bytes (0 ∷ []) after (rings_bytes a.0.0) a.0.1 first others.0, others.1)
 
 -- a disc that is read is spelled so, behind its tag
@@ -49,7 +52,8 @@ unfolding round_at shape_bytes
 round_takes bytes shape rest after fits first e =
     let a = bind_some (disc_at after) (λ disc. Some (Disc disc.0, disc.1)) (shape, rest) e in
     let others = disc_reader.takes after a.0.0 a.0.1 fits a.1 in
-    ended (λ (q : Shape × List ℕ). Takes bytes (shape_bytes q.0) q.1 × IsShape q.0) (Disc a.0.0, a.0.1) (shape, rest) a.2
+    ended (λ (q : Shape × List ℕ). Takes bytes (shape_bytes q.0) q.1 × IsShape q.0) (Disc a.0.0, a.0.1) (shape, rest)
+    a.2
     (Takes-then bytes (1 ∷ []) after (disc_bytes a.0.0) a.0.1 first others.0, others.1)
 
 -- nothing is not something
@@ -77,7 +81,8 @@ shape_takes bytes shape rest fits e =
     ]
 
 -- a shape is read again
-shape_again : (shape : Shape) (rest : List ℕ) → IsShape shape → shape_at (shape_bytes shape ++ rest) ≡ Some (shape, rest)
+shape_again : (shape : Shape) (rest : List ℕ) → IsShape shape
+    → shape_at (shape_bytes shape ++ rest) ≡ Some (shape, rest)
 unfolding shape_at shape_bytes poly_at round_at
 shape_again (Poly rings) rest fits = rw (rings_again rings rest fits) refl
 shape_again (Disc d) rest fits = rw (disc_reader.again d rest fits) refl
@@ -103,7 +108,8 @@ pub shapes_reader : Reader (counted_at shape_at) shapes_bytes (AreFew IsShape)
 shapes_reader = record { takes = shapes_take; again = shapes_again }
 
 -- a region that is read is spelled so
-region_takes : (bytes : List ℕ) (region : RegionValue) (rest : List ℕ) → IsBytes bytes → region_at bytes ≡ Some (region, rest)
+region_takes : (bytes : List ℕ) (region : RegionValue) (rest : List ℕ) → IsBytes bytes
+    → region_at bytes ≡ Some (region, rest)
     → Takes bytes (region_bytes region) rest × IsRegion region
 unfolding region_at region_bytes
 region_takes bytes region rest fits e =
@@ -115,7 +121,8 @@ region_takes bytes region rest fits e =
     let made : RegionValue = record { rule = a.0.0; rings = b.0.0 } in
     let first = rule_takes bytes a.0.0 a.0.1 fits a.1 in
     let others = rings_take a.0.1 b.0.0 b.0.1 first.rest_fits b.1 in
-    ended (λ (q : RegionValue × List ℕ). Takes bytes (rule_byte q.0.rule ∷ rings_bytes q.0.rings) q.1 × AreFew IsRing q.0.rings)
+    ended (λ (q : RegionValue × List ℕ). Takes bytes (rule_byte q.0.rule ∷ rings_bytes q.0.rings) q.1 × AreFew IsRing
+    q.0.rings)
     (made, b.0.1) (region, rest) b.2
     (Takes-then bytes (rule_byte a.0.0 ∷ []) a.0.1 (rings_bytes b.0.0) b.0.1 first others.0, others.1)
 
@@ -132,9 +139,11 @@ region_reader = record { takes = region_takes; again = region_again }
 
 -- regions that are read are spelled so
 regions_take : (bytes : List ℕ) (regions : List RegionValue) (rest : List ℕ) → IsBytes bytes
-    → counted_at region_at bytes ≡ Some (regions, rest) → Takes bytes (regions_bytes regions) rest × AreFew IsRegion regions
+    → counted_at region_at bytes ≡ Some (regions, rest)
+    → Takes bytes (regions_bytes regions) rest × AreFew IsRegion regions
 unfolding regions_bytes
-regions_take bytes regions rest fits e = counted_takes region_at region_bytes IsRegion region_reader bytes regions rest fits e
+regions_take bytes regions rest fits e = counted_takes region_at region_bytes IsRegion region_reader bytes regions
+    rest fits e
 
 -- regions are read again
 regions_again : (regions : List RegionValue) (rest : List ℕ) → AreFew IsRegion regions

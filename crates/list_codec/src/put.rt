@@ -6,7 +6,8 @@ ghost use Rattle.page_model.specs.Disc.{IsDisc};
 ghost use Rattle.list_codec.specs.Command.{cmd_value, Inked, Clipped, Drawn, Pictured, Masked, IsCmd};
 ghost use Rattle.list_codec.specs.Command.{AreFew, IsRing, IsShape, IsRegion};
 ghost use Rattle.list_codec.specs.Spelling.{cmd_bytes, number_bytes, signed_bytes, zigzag, point_bytes, points_bytes};
-ghost use Rattle.list_codec.specs.Spelling.{ring_bytes, rings_bytes, disc_bytes, shape_bytes, shapes_bytes, region_bytes};
+ghost use Rattle.list_codec.specs.Spelling.{ring_bytes, rings_bytes, disc_bytes, shape_bytes, shapes_bytes};
+ghost use Rattle.list_codec.specs.Spelling.{region_bytes};
 ghost use Rattle.list_codec.specs.Spelling.{regions_bytes, rule_byte, ink_bytes, ink_code, source_place, origin};
 ghost use Rattle.list_codec.specs.Code.Appending.{Appends};
 

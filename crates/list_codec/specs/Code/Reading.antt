@@ -1,5 +1,5 @@
--- Reading from the front of bytes: a part and the bytes after it, or nothing. Own rule: words of the code alone; the laws
--- say that it reads what the spelling says and nothing else.
+-- Reading from the front of bytes: a part and the bytes after it, or nothing. Own rule: words of the code alone; the
+-- laws say that it reads what the spelling says and nothing else.
 use Rattle.std.specs.Prelude.{ℕ, zero, suc, ◌≡◌, ◌+◌, ◌-◌, ◌*◌, ◌/◌, ◌%◌, ◌^◌, ◌==◌, nat_lt, Bool, ◌&&◌, List, [], ◌∷◌}
 use Rattle.std.specs.Prelude.{Option, Some, None, option_and_then, Result, Ok, Err, ℤ, pos, negsuc, ◌+ℤ◌}
 use Rattle.std.specs.Prelude.{unsigned_abs, if◌then◌else◌}

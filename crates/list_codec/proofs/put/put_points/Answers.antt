@@ -1,4 +1,5 @@
-use Rattle.std.proofs.Common.{◌≡◌, ℕ, ◌+◌, ◌<◌, ◌≤◌, List, ◌∷◌, ◌++◌, length, get_or, drop, refl, sym, ap, ◌∙◌, append_assoc, arith}
+use Rattle.std.proofs.Common.{◌≡◌, ℕ, ◌+◌, ◌<◌, ◌≤◌, List, ◌∷◌, ◌++◌, length, get_or, drop, refl, sym, ap, ◌∙◌}
+use Rattle.std.proofs.Common.{append_assoc, arith}
 use Rattle.std.proofs.lemmas.List.{append-nil, at_drop_more, at_drop_all}
 use Rattle.std.proofs.lemmas.Result.{err_from_is_err_and}
 use Rattle.press_fault.specs.Plane.{PointValue, IsOnPlane}
@@ -41,7 +42,8 @@ pub loop-point-preserved : goal.loop-point-preserved
 loop-point-preserved c =
     let text = point_bytes c.loop-point.before c.point-item.result in
     record {
-      begins = begins_through c.args.to.now.items c.loop-point.to.items c.put_point.new.to.items c.loop-point.invariant.begins
+      begins = begins_through c.args.to.now.items c.loop-point.to.items c.put_point.new.to.items
+          c.loop-point.invariant.begins
           (begins_put c.loop-point.to.items text c.put_point.new.to.items c.in_ok-put_point.ensures.text);
       rest = point_put c.args.ring.now c.loop-point.before c.point-item.result c.loop-point.point-index
           (c.args.to.now.items ++ points_bytes origin c.args.ring.now) c.loop-point.to.items c.put_point.new.to.items
@@ -59,5 +61,6 @@ returns-clause-text c =
 pub returns-clause-fits : goal.returns-clause-fits
 returns-clause-fits c = record {
   few = omega arith;
-  points = all_done IsOnPlane c.args.ring.now c.loop-point.point-index c.loop-point-test.false c.loop-point.invariant.fit;
+  points = all_done IsOnPlane c.args.ring.now c.loop-point.point-index c.loop-point-test.false
+      c.loop-point.invariant.fit;
 }

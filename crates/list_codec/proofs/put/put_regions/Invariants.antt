@@ -6,6 +6,7 @@ use Rattle.list_codec.proofs.put.put_regions.Given as goal
 
 abbrev pub invariant-loop-region : goal.invariant-loop-region
 invariant-loop-region l = record {
-  text : l.to.items ≡ l.fn.to.items ++ (number_bytes (length l.regions) ++ flat_map region_bytes (take l.region-index l.regions));
+  text : l.to.items
+      ≡ l.fn.to.items ++ (number_bytes (length l.regions) ++ flat_map region_bytes (take l.region-index l.regions));
   fit : AllByRecursion IsRegion (take l.region-index l.regions);
 }

@@ -6,6 +6,7 @@ use Rattle.list_codec.proofs.put.put_shapes.Given as goal
 
 abbrev pub invariant-loop-shape : goal.invariant-loop-shape
 invariant-loop-shape l = record {
-  text : l.to.items ≡ l.fn.to.items ++ (number_bytes (length l.shapes) ++ flat_map shape_bytes (take l.shape-index l.shapes));
+  text : l.to.items
+      ≡ l.fn.to.items ++ (number_bytes (length l.shapes) ++ flat_map shape_bytes (take l.shape-index l.shapes));
   fit : AllByRecursion IsShape (take l.shape-index l.shapes);
 }

@@ -20,19 +20,23 @@ gives_same view result a b same gives = subst (Gives view result) (sym same) giv
 pub returns-in-1-clause-value : goal.returns-in-1-clause-value
 returns-in-1-clause-value c =
     gives_same _ c.flat_at.result (cmd_at c.args.bytes.now) (inked_at c.in-Some.rest.now)
-    (told c.args.bytes.now c.in-Some.rest.now c.in-Some.tag 1 c.in-Some.ensures.value (omega arith)) (c.flat_at.ensures.value _)
+    (told c.args.bytes.now c.in-Some.rest.now c.in-Some.tag 1 c.in-Some.ensures.value (omega arith))
+    (c.flat_at.ensures.value _)
 
 pub returns-in-2-clause-value : goal.returns-in-2-clause-value
 returns-in-2-clause-value c =
     gives_same _ c.clip_at.result (cmd_at c.args.bytes.now) (clipped_at c.in-Some.rest.now)
-    (told c.args.bytes.now c.in-Some.rest.now c.in-Some.tag 2 c.in-Some.ensures.value (omega arith)) (c.clip_at.ensures _)
+    (told c.args.bytes.now c.in-Some.rest.now c.in-Some.tag 2 c.in-Some.ensures.value (omega arith))
+    (c.clip_at.ensures _)
 
 pub returns-in-4-clause-value : goal.returns-in-4-clause-value
 returns-in-4-clause-value c =
     gives_same _ c.image_at.result (cmd_at c.args.bytes.now) (pictured_at c.in-Some.rest.now)
-    (told c.args.bytes.now c.in-Some.rest.now c.in-Some.tag 4 c.in-Some.ensures.value (omega arith)) (c.image_at.ensures.value _)
+    (told c.args.bytes.now c.in-Some.rest.now c.in-Some.tag 4 c.in-Some.ensures.value (omega arith))
+    (c.image_at.ensures.value _)
 
 pub returns-in-5-clause-value : goal.returns-in-5-clause-value
 returns-in-5-clause-value c =
     gives_same _ c.mask_at.result (cmd_at c.args.bytes.now) (masked_at c.in-Some.rest.now)
-    (told c.args.bytes.now c.in-Some.rest.now c.in-Some.tag 5 c.in-Some.ensures.value (omega arith)) (c.mask_at.ensures.value _)
+    (told c.args.bytes.now c.in-Some.rest.now c.in-Some.tag 5 c.in-Some.ensures.value (omega arith))
+    (c.mask_at.ensures.value _)

@@ -7,7 +7,8 @@ use Rattle.list_codec.proofs.spare.points_at.Goals as goal
 
 -- the point that was read is the one that is pushed
 pushed_goes_on : (front ring : List PointValue) (count i : ℕ) (before : PointValue) (bytes : List ℕ) (p q : PointValue)
-    (after rest : List ℕ) (total : Option (List PointValue × List ℕ)) → i < count → point_at before bytes ≡ Some (p, after)
+    (after rest : List ℕ) (total : Option (List PointValue × List ℕ)) → i < count
+    → point_at before bytes ≡ Some (p, after)
     → with_front front (points_at (count - i) before bytes) ≡ total → ring ≡ front ++ q ∷ [] → q ≡ p → rest ≡ after
     → with_front ring (points_at (count - (i + 1)) q rest) ≡ total
 pushed_goes_on front ring count i before bytes p q after rest total more here so_far pushed same_point same_rest =
@@ -20,8 +21,10 @@ returns-in_default c =
 
 pub loop-preserved : goal.loop-preserved
 loop-preserved c =
-    pushed_goes_on c.loop.ring c.push.new.self c.args.count c.loop.counter c.loop.before c.loop.rest.now c.in-Some.point _
-    c.in-Some.after.now _ (points_at c.args.count origin c.args.bytes.now) c.loop-test.true c.in-Some.ensures c.loop.invariant
+    pushed_goes_on c.loop.ring c.push.new.self c.args.count c.loop.counter c.loop.before c.loop.rest.now
+    c.in-Some.point _
+    c.in-Some.after.now _ (points_at c.args.count origin c.args.bytes.now) c.loop-test.true c.in-Some.ensures
+    c.loop.invariant
     c.in_ok-push.ensures.ok (search rules) (search rules)
 
 pub returns : goal.returns

@@ -13,10 +13,12 @@ returns-in_err-region c =
 pub loop-preserved : goal.loop-preserved
 loop-preserved c =
     rw c.in_ok-push.ensures.ok
-    (goes_on region_at c.loop.clip c.args.count c.loop.counter c.loop.rest.now c.in_ok-region.region c.in_ok-region.after.now
+    (goes_on region_at c.loop.clip c.args.count c.loop.counter c.loop.rest.now c.in_ok-region.region
+    c.in_ok-region.after.now
     (many_at region_at c.args.count c.args.bytes.now) c.loop-test.true c.in_ok-region.ensures c.loop.invariant)
 
 pub returns : goal.returns
 returns c =
-    is_done region_at c.loop.clip c.args.count c.loop.counter c.loop.rest.now (many_at region_at c.args.count c.args.bytes.now)
+    is_done region_at c.loop.clip c.args.count c.loop.counter c.loop.rest.now
+    (many_at region_at c.args.count c.args.bytes.now)
     c.loop-test.false c.loop.invariant

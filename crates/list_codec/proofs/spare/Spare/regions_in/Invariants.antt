@@ -4,4 +4,5 @@ use Rattle.list_codec.proofs.Loops.{with_front}
 use Rattle.list_codec.proofs.spare.Spare.regions_in.Given as goal
 
 abbrev pub invariant-loop : goal.invariant-loop
-invariant-loop l = with_front l.clip (many_at region_at (l.count - l.counter) l.rest) ≡ many_at region_at l.count l.bytes
+invariant-loop l = with_front l.clip (many_at region_at (l.count - l.counter) l.rest)
+    ≡ many_at region_at l.count l.bytes

@@ -18,5 +18,6 @@ loop-preserved c =
 
 pub returns : goal.returns
 returns c =
-    is_done ring_at c.loop.rings c.args.count c.loop.counter c.loop.rest.now (many_at ring_at c.args.count c.args.bytes.now)
+    is_done ring_at c.loop.rings c.args.count c.loop.counter c.loop.rest.now
+    (many_at ring_at c.args.count c.args.bytes.now)
     c.loop-test.false c.loop.invariant

@@ -13,10 +13,12 @@ returns-in_err-shape c =
 pub loop-preserved : goal.loop-preserved
 loop-preserved c =
     rw c.in_ok-push.ensures.ok
-    (goes_on shape_at c.loop.shapes c.args.count c.loop.counter c.loop.rest.now c.in_ok-shape.shape c.in_ok-shape.after.now
+    (goes_on shape_at c.loop.shapes c.args.count c.loop.counter c.loop.rest.now c.in_ok-shape.shape
+    c.in_ok-shape.after.now
     (many_at shape_at c.args.count c.args.bytes.now) c.loop-test.true c.in_ok-shape.ensures c.loop.invariant)
 
 pub returns : goal.returns
 returns c =
-    is_done shape_at c.loop.shapes c.args.count c.loop.counter c.loop.rest.now (many_at shape_at c.args.count c.args.bytes.now)
+    is_done shape_at c.loop.shapes c.args.count c.loop.counter c.loop.rest.now
+    (many_at shape_at c.args.count c.args.bytes.now)
     c.loop-test.false c.loop.invariant

@@ -4,4 +4,5 @@ use Rattle.list_codec.proofs.Loops.{with_front}
 use Rattle.list_codec.proofs.spare.Spare.shapes_in.Given as goal
 
 abbrev pub invariant-loop : goal.invariant-loop
-invariant-loop l = with_front l.shapes (many_at shape_at (l.count - l.counter) l.rest) ≡ many_at shape_at l.count l.bytes
+invariant-loop l = with_front l.shapes (many_at shape_at (l.count - l.counter) l.rest)
+    ≡ many_at shape_at l.count l.bytes
