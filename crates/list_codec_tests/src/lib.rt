@@ -26,7 +26,10 @@ fn again(alloc: Global, bytes: &[u8]) -> Mem<Vec<u8>> {
 /// The corners of a rectangle from the left edge, in whole dots: from row 2 up to row 1, over two
 /// columns.
 fn rectangle(alloc: Global) -> Mem<Rings> {
-    Rings::one(alloc, Ring::rectangle(alloc, point(0, 512), point(512, 256))?)
+    Rings::one(
+        alloc,
+        Ring::rectangle(alloc, point(0, 512), point(512, 256))?,
+    )
 }
 
 /// That rectangle alone.
@@ -133,7 +136,9 @@ fn other_bytes_are_no_command(rt: HostRuntime) -> Result<(), Fail> {
         &[0x01, 0x03, 0x00, 0xFF, 0x00],
         &[0x03, 0x02, 0x00],
         &[0x04, 0x80, 0x80, 0x80, 0x80, 0x10],
-        &[0x05, 0xFF, 0xFF, 0xFF, 0xFF, 0xFF, 0xFF, 0xFF, 0xFF, 0xFF, 0x01],
+        &[
+            0x05, 0xFF, 0xFF, 0xFF, 0xFF, 0xFF, 0xFF, 0xFF, 0xFF, 0xFF, 0x01,
+        ],
         &[0x02, 0xFF, 0xFF, 0xFF, 0xFF, 0xFF, 0xFF, 0xFF, 0xFF, 0x7F],
     ];
     for bytes in cases {
@@ -157,6 +162,15 @@ fn a_room_holds_the_shapes_of_the_last_command(rt: HostRuntime) -> Result<(), Fa
     let [ring] = rings.items() else {
         return Err(Fail::from("no ring"));
     };
-    assert!(rt; ring.items() == [point(0, 512), point(512, 512), point(512, 256), point(0, 256)].as_slice());
+    assert!(rt;
+        ring.items()
+            == [
+                point(0, 512),
+                point(512, 512),
+                point(512, 256),
+                point(0, 256)
+            ]
+            .as_slice()
+    );
     Ok(())
 }
