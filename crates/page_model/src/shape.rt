@@ -1,4 +1,4 @@
-ghost use Rattle.std.specs.Prelude.{◌≡◌, ◌<◌, ◌^◌, [], ◌∷◌, ◌++◌, OnOk, OnErr, IfOk, pos};
+ghost use Rattle.std.specs.Prelude.{◌≡◌, ◌<◌, ◌^◌, [], ◌∷◌, ◌++◌, OnOk, OnErr, IfOk, MatchOption, pos};
 ghost use Rattle.press_fault.specs.Plane.{IsWithin};
 
 use crate::Rings;
@@ -122,6 +122,14 @@ impl Shapes {
     {
         self.shapes.push(item)?;
         Ok(())
+    }
+
+    /// Takes the last one away, if there is one.
+    pub fn pop(&mut self) -> Option<Shape>
+        ensures { MatchOption result ((self.old ≡ []) × (self.new ≡ []))
+            (λ shape. self.old ≡ self.new ++ shape ∷ []) }
+    {
+        self.shapes.pop()
     }
 
     /// All of them, in order.

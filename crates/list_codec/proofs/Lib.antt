@@ -1,0 +1,10 @@
+pub mod Fronts
+pub mod Numbers
+pub mod Points
+pub mod Many
+pub mod Inks
+pub mod Shapes
+pub mod Commands
+pub mod Loops
+pub mod Appending
+pub mod Bounds

@@ -1,0 +1,4 @@
+pub mod Command
+pub mod Spelling
+pub mod Lists
+pub mod Code
