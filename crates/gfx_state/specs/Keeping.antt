@@ -1,6 +1,5 @@
 -- What holds of every graphics state: the page is within its limits, its points are counted, and its marks are plain.
--- Own
--- rule: the limits.
+-- Own rule: the limits.
 use Rattle.std.specs.Prelude.{◌≡◌, ◌≤◌, ◌*◌, ℕ, List, [], length, All, Option, IfSome}
 use Rattle.page_model.specs.Marking.{RegionValue, MarkValue}
 use Rattle.page_model.specs.Page.{HasKnownSource}

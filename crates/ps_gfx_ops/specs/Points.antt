@@ -1,6 +1,5 @@
 -- The points that operators take from the operands, in user space (PostScript Language Reference, third edition, 4.4
--- Path
--- Construction): enough of them, then their types. Own rule: the order of these refusals.
+-- Path Construction): enough of them, then their types. Own rule: the order of these refusals.
 use Rattle.std.specs.Prelude.{ℤ, List, [], ◌∷◌, Option, Some, None, Result, Ok, Err}
 use Rattle.press_fault.specs.declared.names.PsName.{PsName}
 use Rattle.press_fault.specs.declared.names.PsName.TheVariants.{StackUnderflow, TypeCheck}
