@@ -1,7 +1,6 @@
 -- Edges that a walk down the rows of a page keeps, and what they add to the winding number (PostScript Language
--- Reference,
--- third edition, 4.5 Painting). Own rule: where an edge crosses a row is kept as a column and what is over; from
--- row to row both grow by a quotient and a remainder, and nothing is rounded.
+-- Reference, third edition, 4.5 Painting). Own rule: where an edge crosses a row is kept as a column and what is
+-- over; from row to row both grow by a quotient and a remainder, and nothing is rounded.
 use Rattle.std.specs.Prelude.{◌≡◌, ℕ, ◌<◌, ◌≤◌, ◌+◌, ◌*◌, ◌^◌, Bool, ◌&&◌, nat_le, List, [], ◌∷◌, map, Option, Some}
 use Rattle.std.specs.Prelude.{None, ℤ, pos, negsuc, ◌+ℤ◌, ◌-ℤ◌, ◌*ℤ◌, int_le, unsigned_abs, if◌then◌else◌}
 use Rattle.page_model.specs.Inside.{total, is_inside}

@@ -1,6 +1,6 @@
--- The graphics state, its saved copies, and the page that is painted
--- (PostScript Language Reference, third edition, 4.2 Graphics State and 8.2 Operator Details). Own rules: the limits of
--- saved states and clips, and of the dashes of a stroke.
+-- The graphics state, its saved copies, and the page that is painted (PostScript Language Reference, third edition,
+-- 4.2 Graphics State and 8.2 Operator Details). Own rules: the limits of saved states and clips, and of the dashes of
+-- a stroke.
 use Rattle.std.specs.Prelude.{ℕ, ℤ, pos, neg_ℤ, int_lt, unsigned_abs, ◌+◌, ◌*◌, List, [], ◌∷◌, ◌++◌, length, Bool, true}
 use Rattle.std.specs.Prelude.{false, reverse, take, slice_get, Option, Some, None, Result, Ok, Err, nat_lt}
 use Rattle.std.specs.Prelude.{if◌then◌else◌}

@@ -1,4 +1,5 @@
--- Colour from one profile to another (ICC.1:2010, Annex F: the models of matrix, monochrome and lut profiles).
+-- Colour from one profile to another (ICC.1:2010, Annex F: the models of monochrome and matrix profiles; 8.3 to 8.5:
+-- luts; 6.3: joined in the PCS).
 use Rattle.std.specs.Prelude.{ℕ, ◌*◌, ◌+◌, ◌≤◌, ◌==◌, Bool, true, false, not, List, [], ◌∷◌, map, take, slice_index}
 use Rattle.std.specs.Prelude.{slice_index_or, Option, Some, None, ℤ, pos, ◌≤ℤ◌, ◌+ℤ◌, ◌-ℤ◌, ◌*ℤ◌, unsigned_abs}
 use Rattle.std.specs.Prelude.{if◌then◌else◌}
@@ -16,8 +17,7 @@ use Rattle.icc_model.specs.declared.profile.Base.TheVariants.{Matrix, Gray}
 use Rattle.icc_model.specs.declared.profile.Intent.{Intent}
 
 -- Matrix profiles (Annex F, three-component matrix-based profiles). The nine numbers are the red, the green and the
--- blue
--- column, X, Y and Z of each, in 1/65536.
+-- blue column, X, Y and Z of each, in 1/65536.
 
 -- a column of the matrix: 0 red, 1 green, 2 blue
 abbrev pub column : List ℤ → ℕ → PcsValue
@@ -69,9 +69,8 @@ gray_of true g = record {
       pos 0;
 }
 
--- The PCS in a lut's values: of 16 bits XYZ by 1/32768 (u1Fixed15), and Lab in the legacy encoding (10.8: L* of 100 is
--- FF00
--- hex, and 0 of a* and b* 8000 hex); of 8 bits Lab alone (10.9: L* of 100 is FF hex, 0 of a* and b* 80 hex).
+-- The PCS in a lut's values: of 16 bits XYZ by 1/32768 (u1Fixed15), and Lab in the legacy encoding (10.8: L* of 100
+-- is FF00 hex, and 0 of a* and b* 8000 hex); of 8 bits Lab alone (10.9: L* of 100 is FF hex, 0 of a* and b* 80 hex).
 abbrev pub decoded : Bool → Bool → ℕ → ℕ → ℕ → PcsValue
 decoded true false x y z = record {
   first = in_xyz (pos (2 * x));

@@ -1,4 +1,4 @@
--- Profiles as values (ICC.1:2010, 8 Required tags, 9.2 Tag listing).
+-- Profiles as values (ICC.1:2010, 8 Required tags, 8.10 Precedence order of tag usage).
 use Rattle.std.specs.Prelude.{◌≡◌, ◌≢◌, ℕ, ◌⊎◌, Bool, true, false, List, slice_index_or, Option, Some, None}
 use Rattle.icc_model.specs.declared.profile.Transform.{Transform}
 use Rattle.icc_model.specs.declared.profile.Transform.TheVariants.{Lut}
@@ -8,8 +8,7 @@ use Rattle.icc_model.specs.declared.profile.Intent.{Intent}
 use Rattle.icc_model.specs.declared.profile.Intent.TheVariants.{Perceptual, Relative, Saturation}
 
 -- A profile: its bytes; whether its PCS is Lab, else XYZ; the channels of its colour space; its matrix or gray curve,
--- if it
--- has one; the transforms AToB0 to AToB2 and BToA0 to BToA2, those that it has.
+-- if it has one; the transforms AToB0 to AToB2 and BToA0 to BToA2, those that it has.
 pub record ProfileValue : Type 0 where
   pub bytes : List ℕ
   pub lab : Bool
@@ -33,7 +32,7 @@ or_else None second = second
 abbrev pub nth : List (Option Transform) → ℕ → Option Transform
 nth transforms number = slice_index_or transforms number None
 
--- the transform for an intent: its own, else the one of number 0 (9.2: AToB0 and BToA0 serve where the other is
+-- the transform for an intent: its own, else the one of number 0 (8.10: AToB0 and BToA0 serve where the other is
 -- missing)
 unfoldable pub chosen : List (Option Transform) → Intent → Option Transform
 chosen transforms intent = or_else (nth transforms (number_of intent)) (nth transforms 0)

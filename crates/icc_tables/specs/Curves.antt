@@ -7,14 +7,14 @@ use Rattle.icc_tables.specs.Rounded.{rounded}
 abbrev pub CurveValue : Type 0
 CurveValue = Option (List ℕ)
 
--- a curve with entries has from 2 to 65536 of them. Own rule: one entry alone, an exponent, is no curve here
+-- a curve with entries has from 2 to 65536 of them. Own rules: no curve has more, and one entry alone, an exponent,
+-- is no curve here
 abbrev pub IsCurve : CurveValue → Type 0
 IsCurve (Some entries) = (2 ≤ length entries) × (length entries ≤ 65536)
 IsCurve None = Unit {0}
 
--- The value at v, from 0 to 65535, of the table of `count` entries that begins at the place `from`: linear between the
--- two
--- entries next to v * (count - 1) / 65535, rounded once. At an entry itself the second product is 0.
+-- The value at v, from 0 to 65535, of the table of `count` entries that begins at the place `from`: linear between
+-- the two entries next to v * (count - 1) / 65535, rounded once. At an entry itself the second product is 0.
 unfoldable pub table_value : List ℕ → ℕ → ℕ → ℕ → ℕ
 table_value entries from count v =
     rounded (slice_index entries (from + v * (count - 1) / 65535) * (65535 - v * (count - 1) % 65535)

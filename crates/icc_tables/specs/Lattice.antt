@@ -4,11 +4,10 @@ use Rattle.std.specs.Prelude.{length, slice_index, ℤ, if◌then◌else◌}
 use Rattle.icc_tables.specs.Rounded.{rounded}
 use Rattle.icc_tables.specs.Curves.{table_value}
 
--- A lut: whether its values have 16 bits (lut16Type) or 8 (lut8Type); its input channels, and grid points of each; the
--- matrix, in 1/65536 and row by row; the entries of one input and of one output table; input tables, lattice (CLUT),
--- output
--- tables, each channel by channel. It has three outputs, and the first input channel varies least rapidly in the
--- lattice.
+-- A lut: whether its values have 16 bits (lut16Type) or 8 (lut8Type); its input channels, and grid points of each;
+-- the matrix, in 1/65536 and row by row; the entries of one input and of one output table; input tables, lattice
+-- (CLUT), output tables, each channel by channel. The first input channel varies least rapidly in the lattice. Own
+-- rule: it has three outputs, since the PCS and what pages are made of have three.
 pub record LutValue : Type 0 where
   pub wide : Bool
   pub inputs : ℕ
@@ -51,12 +50,10 @@ abbrev pub IsPoint : ℕ → List ℕ → Type 0
 IsPoint top [] = Unit {0}
 IsPoint top (v ∷ at) = (v ≤ top) × IsPoint top at
 
--- The sum over all corners of the cell that the values `at` (0 to `top`) lie in, of weight times node. Along a channel
--- the
--- point v lies in cell v * (grid - 1) / top, and its distance from the cell's ends is the remainder r: the lower end
--- weighs
--- top - r, the upper one r. The weight of a corner is the product of these, its place is counted with the first channel
--- varying least rapidly. `weight` and `place` are those of the channels before.
+-- The sum over all corners of the cell that the values `at` (0 to `top`) lie in, of weight times node. Along a
+-- channel the point v lies in cell v * (grid - 1) / top, and its distance from the cell's ends is the remainder r:
+-- the lower end weighs top - r, the upper one r. The weight of a corner is the product of these, its place is counted
+-- with the first channel varying least rapidly. `weight` and `place` are those of the channels before.
 unfoldable pub corner_sum : ℕ → ℕ → List ℕ → ℕ → List ℕ → ℕ → ℕ → ℕ
 corner_sum top grid nodes output [] weight place = weight * slice_index nodes (place * 3 + output)
 corner_sum top grid nodes output (v ∷ at) weight place =
@@ -72,9 +69,8 @@ node_value lut at output =
 abbrev pub lattice_at : LutValue → List ℕ → List ℕ
 lattice_at lut at = node_value lut at 0 ∷ node_value lut at 1 ∷ node_value lut at 2 ∷ []
 
--- The table of one channel, of those that stand one after another: of 16 bits by interpolation, of 8 bits the entry of
--- the
--- value itself.
+-- The table of one channel, of those that stand one after another: of 16 bits by interpolation, of 8 bits the entry
+-- of the value itself.
 abbrev pub entry_at : Bool → List ℕ → ℕ → ℕ → ℕ → ℕ
 entry_at wide entries count channel v =
     if wide then table_value entries (channel * count) count v else slice_index entries (channel * count + v)

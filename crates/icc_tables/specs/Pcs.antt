@@ -1,8 +1,6 @@
 -- The profile connection space (ICC.1:2010, 6.3): XYZ and Lab, and from one to the other by CIELAB with the white D50
--- of the
--- PCS (7.2.16, 0.9642 1.0 0.8249). Own rule: numbers count 1/65536 of the unit, and f and t below are whole numbers
--- too, so
--- that every machine agrees.
+-- of the PCS (7.2.16, 0.9642 1.0 0.8249). Own rule: numbers count 1/65536 of the unit, and f and t below are whole
+-- numbers too, so that every machine agrees.
 use Rattle.std.specs.Prelude.{List, [], ◌∷◌, slice_index_or, ℤ, pos, ◌+ℤ◌, ◌-ℤ◌, ◌*ℤ◌, neg_ℤ, ◌*◌, ◌^◌, unsigned_abs}
 use Rattle.std.specs.Prelude.{int_lt, ◌≤ℤ◌, if◌then◌else◌}
 use Rattle.press_nums.specs.Rounding.{div_round}
@@ -23,7 +21,7 @@ in_xyz n = clamped (pos 0) (pos 131070) n
 abbrev pub in_lightness : ℤ → ℤ
 in_lightness n = clamped (pos 0) (pos 6553600) n
 
--- a* and b* lie from -128 to 127 + 255/256
+-- a* and b* lie from -128 to 127 + 255/256, the ends of the legacy encoding of 16 bits (10.8)
 abbrev pub in_chroma : ℤ → ℤ
 in_chroma n = clamped (neg_ℤ (pos 8388608)) (pos 8388352) n
 

@@ -1,6 +1,5 @@
 -- Rectangles (PostScript Language Reference, third edition, 8.2 `rectfill`). Own rule: the corners go round from the
--- first
--- point along the row, so that each side is level or upright.
+-- first point along the row, so that each side is level or upright.
 use Rattle.std.specs.Prelude.{List, [], ◌∷◌}
 use Rattle.press_fault.specs.Plane.{PointValue}
 

@@ -1,6 +1,5 @@
--- The text of a page as a portable pixmap (Netpbm, PPM, binary form P6, samples of 8 or of 16 bits). Own rule: a colour
--- without a
--- profile is told by its code.
+-- The text of a page as a portable pixmap (Netpbm, PPM, binary form P6, samples of 8 or of 16 bits). Own rule: a
+-- colour without a profile is told by its code.
 use Rattle.std.specs.Prelude.{ℕ, ◌+◌, ◌*◌, ◌-◌, ◌/◌, ◌%◌, min, List, [], ◌∷◌, ◌++◌, codes}
 use Rattle.std.specs.List.{flat_map, range_with_len}
 use Rattle.std.specs.Fmt.{decimal}

@@ -17,8 +17,7 @@ IsInputRefusal (TooLong which) = Unit {0}
 IsInputRefusal status = ⊥
 
 -- How often the shelf was asked: never where the words are refused, else at most once for each input; and where an
--- input is
--- refused, exactly as often as its place among the inputs says. The program is the only input.
+-- input is refused, exactly as often as its place among the inputs says. The program is the only input.
 pub record AsksInOrder (status : Status) (before now : ℕ) : Type 0 where
   pub none : status ≡ Usage → now ≡ before
   pub most : now ≤ before + 1

@@ -182,8 +182,7 @@ abbrev pub close_dict_row : List Obj → StoreValue → Outcome OperandsAndStore
 close_dict_row operands s = or_unmatched (position_from is_mark 0 operands) (λ n. closed_row n operands s)
 
 -- Each refusal but this one is told as what it is. Own rule: a limit that refuses `>>` is known once its entries are
--- put together,
--- which takes memory.
+-- put together, which takes memory.
 abbrev pub TellsRefusalBut : {S A : Type 0} → PsName → Outcome S → Result A OpFault → Type 0
 TellsRefusalBut untold outcome result = (name : PsName) → name ≢ untold → outcome ≡ Refuses name →
     result ≡ Err (Ps name)

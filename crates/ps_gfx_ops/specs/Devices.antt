@@ -1,8 +1,7 @@
 -- Page devices (PostScript Language Reference, third edition, 6.1 Using Page Devices, 8.2 Operator Details:
--- setpagedevice).
--- Own rules: of the dictionary PageSize alone is read; a side is rounded to whole dots, one at least; each element has
--- to be a
--- number before their number is asked; and the saved states stay, with the matrix of the old page.
+-- setpagedevice). Own rules: of the dictionary PageSize alone is read; a side is rounded to whole dots, one at least;
+-- each element has to be a number before their number is asked; and the saved states stay, with the matrix of the old
+-- page.
 use Rattle.std.specs.Prelude.{ℕ, ℤ, pos, ◌*◌, ◌*ℤ◌, int_lt, unsigned_abs, nat_le, max, Bool, ◌&&◌, List, [], ◌∷◌, drop}
 use Rattle.std.specs.Prelude.{codes, Option, Some, None, Result, Ok, Err, if◌then◌else◌}
 use Rattle.std.specs.List.{list_all}

@@ -1,8 +1,6 @@
 -- Line parameters (PostScript Language Reference, third edition, 8.2 Operator Details: setlinewidth, setmiterlimit,
--- setlinecap,
--- setlinejoin, setdash, currentlinewidth): enough operands, their types, and then what the parameter allows. Own rule:
--- each
--- element of a dash array has to be a number before any length is asked.
+-- setlinecap, setlinejoin, setdash, currentlinewidth): enough operands, their types, and then what the parameter
+-- allows. Own rule: each element of a dash array has to be a number before any length is asked.
 use Rattle.std.specs.Prelude.{ℤ, pos, List, [], ◌∷◌, drop, map, Option, Some, None, Result, Ok, Err, if◌then◌else◌}
 use Rattle.std.specs.List.{list_all}
 use Rattle.press_fault.specs.declared.names.PsName.{PsName}

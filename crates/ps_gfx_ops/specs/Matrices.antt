@@ -1,8 +1,7 @@
 -- Coordinate systems and matrices (PostScript Language Reference, third edition, 8.2 Operator Details: matrix,
--- currentmatrix,
--- setmatrix, concat, initmatrix, translate, scale, rotate, transform, itransform). Own rules: the types of all elements
--- are asked
--- before their number, and currentmatrix writes the first six elements whatever they are.
+-- currentmatrix, setmatrix, concat, initmatrix, translate, scale, rotate, transform, itransform). Own rules: the
+-- types of all elements are asked before their number, and currentmatrix writes the first six elements whatever they
+-- are.
 use Rattle.std.specs.Prelude.{ℤ, Bool, false, List, [], ◌∷◌, drop, length, nat_lt, Option, Some, Result, Ok, Err}
 use Rattle.std.specs.Prelude.{if◌then◌else◌}
 use Rattle.std.specs.List.{list_all}

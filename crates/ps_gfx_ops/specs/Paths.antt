@@ -1,8 +1,6 @@
 -- Path construction and painting (PostScript Language Reference, third edition, 8.2 Operator Details: newpath,
--- closepath,
--- moveto, lineto, rmoveto, rlineto, curveto, rcurveto, arc, arcn, currentpoint, fill, eofill, stroke, clip, eoclip).
--- Own rule: where there is no
--- current point, that is asked before the points.
+-- closepath, moveto, lineto, rmoveto, rlineto, curveto, rcurveto, arc, arcn, currentpoint, fill, eofill, stroke,
+-- clip, eoclip). Own rule: where there is no current point, that is asked before the points.
 use Rattle.std.specs.Prelude.{ℤ, ◌+ℤ◌, Bool, List, ◌∷◌, drop, length, nat_lt, Option, Some, None, Result, Ok, Err}
 use Rattle.std.specs.Prelude.{if◌then◌else◌}
 use Rattle.press_fault.specs.Plane.{PointValue}

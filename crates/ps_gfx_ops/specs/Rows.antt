@@ -1,6 +1,5 @@
 -- The rows of the graphics operators: what each does to the operands, the store, the graphics state and the page
--- (PostScript
--- Language Reference, third edition, 8.2 Operator Details). Own rule: the order of refusals.
+-- (PostScript Language Reference, third edition, 8.2 Operator Details). Own rule: the order of refusals.
 use Rattle.std.specs.Prelude.{List, Bool, true, false}
 use Rattle.page_model.specs.declared.shape.Rule.TheVariants.{Nonzero, EvenOdd}
 use Rattle.ps_store.specs.declared.obj.Obj.{Obj}
@@ -104,9 +103,8 @@ takes_memory OnGfx.Rectstroke = true
 takes_memory OnGfx.Rectclip = true
 takes_memory op = false
 
--- What is asked before any memory is: the whole row, but that the dashes and points of an outline aren't counted before
--- it is
--- made.
+-- What is asked before any memory is: the whole row, but that the dashes and points of an outline aren't counted
+-- before it is made.
 abbrev pub row_before_memory : GfxOp → List Obj → StoreValue → GfxValue → Outcome GraphicsScene
 row_before_memory OnGfx.Stroke operands s g = beside s (stroke_start operands g)
 row_before_memory OnGfx.Rectstroke operands s g = beside s (rectstroke_start operands g)

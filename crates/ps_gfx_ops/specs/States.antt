@@ -1,6 +1,5 @@
 -- Saved graphics states (PostScript Language Reference, third edition, 8.2 Operator Details: gsave, grestore,
--- grestoreall,
--- initgraphics). Own rule: at most 32 states are saved.
+-- grestoreall, initgraphics). Own rule: at most 32 states are saved.
 use Rattle.std.specs.Prelude.{List}
 use Rattle.ps_store.specs.declared.obj.Obj.{Obj}
 use Rattle.ps_store.specs.Outcome.{Outcome, Goes, or_limit}

@@ -1,6 +1,5 @@
 -- What holds of the operands that an operator on operands and graphics leaves: P holds of them, where it holds of the
--- operands
--- without any number of the top ones, and of these with two real numbers.
+-- operands without any number of the top ones, and of these with two real numbers.
 use Rattle.std.specs.Prelude.{ℤ, Bool, nat_lt}
 use Rattle.std.proofs.lemmas.Bool.{ltb-true}
 use Rattle.std.proofs.Common.{ℕ, ◌<◌, List, [], ◌∷◌, length, drop, Option, Some, None, Result, Ok, Err}

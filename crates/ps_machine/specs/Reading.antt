@@ -1,8 +1,6 @@
 -- The program's text, read one token at a time (PostScript Language Reference, third edition, 3.2 Syntax and 3.5
--- Execution).
--- Own rules: `scan` and `push` are the commands of what the text itself is refused for; an object that is to be
--- executed at once
--- isn't counted.
+-- Execution). Own rules: `scan` and `push` are the commands of what the text itself is refused for; an object that is
+-- to be executed at once isn't counted.
 use Rattle.std.specs.Prelude.{ℕ, true, false, List, [], ◌∷◌, length, Option, Some, None, nat_lt, if◌then◌else◌, codes}
 use Rattle.press_fault.specs.declared.names.PsName.TheVariants.{StackOverflow, Undefined, SyntaxError, LimitCheck}
 use Rattle.ps_scan.specs.declared.token.Token.{Token}

@@ -1,6 +1,5 @@
--- What is executed (PostScript Language Reference, third edition, 3.5 Execution). Own rules: at most 250 levels; a turn
--- of a loop
--- pushes all that it has to push, or nothing.
+-- What is executed (PostScript Language Reference, third edition, 3.5 Execution). Own rules: at most 250 levels; a
+-- turn of a loop pushes all that it has to push, or nothing.
 use Rattle.std.specs.Prelude.{ℕ, ◌+◌, true, List, ◌∷◌, length, Option, Some, None, nat_lt, nat_le, if◌then◌else◌, codes}
 use Rattle.press_fault.specs.declared.names.PsName.TheVariants.{StackOverflow, Undefined, ExecStackOverflow}
 use Rattle.ps_store.specs.declared.obj.Obj.{Obj}

@@ -1,6 +1,5 @@
--- What the way through a row keeps: finished spans, and the first column of one that has begun. Own rule: words of the
--- code
--- alone.
+-- What the way through a row keeps: finished spans, and the first column of one that has begun. Own rule: words of
+-- the code alone.
 use Rattle.std.specs.Prelude.{◌≡◌, ℕ, ◌<◌, Bool, ◌&&◌, ◌||◌, List, Option, Some, None}
 use Rattle.geo_fill.specs.Spans.{SpanValue, is_in, have_column, EndBefore}
 
