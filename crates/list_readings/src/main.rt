@@ -191,7 +191,10 @@ fn show_changed(rt: &HostRuntime, room: &mut CmdRoom, name: &str, list: &[u8]) -
         let Ok(tally) = changed_lists(rt.alloc(), room, list, place) else {
             return Err(io::Error::from(ErrorKind::OutOfMemory));
         };
-        println!(rt; "{name}, byte {place}: {} commands, sum {}", tally.read, tally.sum)?;
+        println!(rt;
+            "{name}, byte {place}: {} commands, sum {}",
+            tally.read, tally.sum
+        )?;
     }
     Ok(())
 }
@@ -202,7 +205,10 @@ fn main(rt: HostRuntime) -> io::Result<()> {
         let Ok(tally) = lists_from(&mut room, first) else {
             return Err(io::Error::from(ErrorKind::OutOfMemory));
         };
-        println!(rt; "three bytes from {first}: {} commands, sum {}", tally.read, tally.sum)?;
+        println!(rt;
+            "three bytes from {first}: {} commands, sum {}",
+            tally.read, tally.sum
+        )?;
     }
     show_changed(&rt, &mut room, "flat", FLAT)?;
     show_changed(&rt, &mut room, "clip", CLIP)?;

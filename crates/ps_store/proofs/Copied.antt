@@ -9,7 +9,8 @@ use Rattle.ps_store.specs.declared.obj.Obj.{Obj}
 use Rattle.ps_store.specs.Store.{piece}
 use Rattle.ps_store.specs.Copying.{placed}
 
--- of the places behind one those from low up to high hold the objects of a list from start on, all others their old ones
+-- of the places behind one those from low up to high hold the objects of a list from start on, all others their old
+-- ones
 pub record ArePut (items before : List Obj) (start at low high : ℕ) (now : List Obj) : Type 0 where
   pub size : length now ≡ length before
   pub put : (j : ℕ) (d : Obj) → low ≤ j → j < high → get_or now (at + j) d ≡ get_or items (start + j) d
@@ -60,8 +61,9 @@ put_before items before now start at low high o p order inside is = record {
 }
 
 -- what is read behind those that are put is an old object
-pub read_behind : (before now : List Obj) (start at low high : ℕ) (o : Obj) → ArePut before before start at low high now →
-    at ≤ start → start + high < length now → o ≡ get_or now (start + high) o →
+pub read_behind : (before now : List Obj) (start at low high : ℕ) (o : Obj) →
+    ArePut before before start at low high now → at ≤ start → start + high < length now →
+    o ≡ get_or now (start + high) o →
     (d : Obj) → o ≡ get_or before (start + high) d
 read_behind before now start at low high o p down inside is d =
     is ∙ (get_or_default now (start + high) o d inside ∙ p.above (start + high) d (omega (arith, down)))

@@ -68,7 +68,8 @@ count_less es e (d ∷ more) =
     omega (arith, first, rest, before, after)
 
 -- the entry at a place comes next
-pub next_entry : (xs : List (Key × Obj)) (i : ℕ) (e : Key × Obj) → slice_get xs i ≡ Some e → drop i xs ≡ e ∷ drop (i + 1) xs
+pub next_entry : (xs : List (Key × Obj)) (i : ℕ) (e : Key × Obj) → slice_get xs i ≡ Some e →
+    drop i xs ≡ e ∷ drop (i + 1) xs
 next_entry xs i e is = drop_more xs i e (slice_get_within xs i e is)
     ∙ ap (λ d. d ∷ drop (i + 1) xs) (get_or_from_slice_get xs i e e is)
 

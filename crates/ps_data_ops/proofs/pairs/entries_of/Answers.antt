@@ -22,7 +22,8 @@ returns-in_default-key_of c =
     subst (λ (n : ℕ). slice_get stack n ≡ Some c.in-Some.key.now) place
     (sym c.at.ensures ∙ ap option_copied c.in-Some.is) in
     let second : slice_get stack k ≡ Some value = sym c.at-in-loop-left.ensures ∙ ap option_copied c.in-Some-at.is in
-    let no_name : key_of s c.in-Some.key.now ≡ Err c.in_default-key_of.field-0 = ap (λ t. key_of t c.in-Some.key.now) (sym c.loop-left.invariant.store)
+    let no_name : key_of s c.in-Some.key.now ≡ Err c.in_default-key_of.field-0 =
+    ap (λ t. key_of t c.in-Some.key.now) (sym c.loop-left.invariant.store)
     ∙ (sym c.key_of.ensures ∙ c.in_default-key_of.is) in
     record {
       entries =

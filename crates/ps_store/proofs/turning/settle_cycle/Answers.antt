@@ -56,7 +56,8 @@ returns-clause-turned c = λ before p.
     let is : first ≡ get_or (drop from old) start first = c.again-first.ensures
     ∙ (get_or_default old (from + start) c.index-items-begin.result first c.requires.within
     ∙ sym (get_or-drop from old start first)) in
-    subst (λ (xs : List Obj). ArePartlyTurned n k before (set settled hole true) xs) (sym (drop-set-add from items hole first))
+    subst (λ (xs : List Obj). ArePartlyTurned n k before (set settled hole true) xs)
+    (sym (drop-set-add from items hole first))
     (takes n k before now settled hole start first walk.within long wide
     (subst (λ (m : ℕ). IsSource n k hole m) c.loop-next-test.false walk.source)
     (read n k before (drop from old) c.args.settled.now start first (omega (arith, c.requires.within))

@@ -7,5 +7,6 @@ abbrev pub invariant-loop-start : goal.invariant-loop-start
 invariant-loop-start l =
     AreClosed (length l.initial.items - l.from) l.k l.settled
     × ((i : ℕ) → i < l.start → IsSettled l.settled i)
-    × ArePartlyTurned (length l.initial.items - l.from) l.k (drop l.from l.initial.items) l.settled (drop l.from l.items)
+    × ArePartlyTurned (length l.initial.items - l.from) l.k (drop l.from l.initial.items) l.settled
+    (drop l.from l.items)
     × (take l.from l.items ≡ take l.from l.initial.items)
