@@ -2,10 +2,9 @@
 //!
 //! Standard output has a line for each case: the bytes of the profile, and what was read. Standard
 //! error has the nanoseconds that the fastest of several readings took.
-#![tactic(auto)]
-
 ghost use Rattle.std.specs.Prelude.{◌≤◌, length};
 
+use crate::no_memory;
 use icc_model::Profile;
 use icc_read::read_profile;
 use press_fault::{Mem, NoMemory};
@@ -118,7 +117,7 @@ fn case(rt: &HostRuntime, name: &str, bytes: &[u8]) -> io::Result<()> {
 }
 
 fn of_memory(_: NoMemory) -> io::Error {
-    io::Error::from(ErrorKind::OutOfMemory)
+    no_memory()
 }
 
 /// The curve of sRGB: `para`, function type 3.
@@ -128,11 +127,12 @@ const SRGB: &[u8] =
 /// The exponent 2.2.
 const GAMMA: &[u8] = b"curv\0\0\0\0\0\0\0\x01\x02\x33";
 
-fn main(rt: HostRuntime) -> io::Result<()> {
+/// Prints what was read.
+pub(crate) fn run(rt: &HostRuntime) -> io::Result<()> {
     let lut = of_lut(rt.alloc()).map_err(of_memory)?;
     let srgb = of_curve(rt.alloc(), SRGB).map_err(of_memory)?;
     let gamma = of_curve(rt.alloc(), GAMMA).map_err(of_memory)?;
-    case(&rt, "lut", &lut)?;
-    case(&rt, "three times the curve of sRGB", &srgb)?;
-    case(&rt, "three times an exponent", &gamma)
+    case(rt, "lut", &lut)?;
+    case(rt, "three times the curve of sRGB", &srgb)?;
+    case(rt, "three times an exponent", &gamma)
 }

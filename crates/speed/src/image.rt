@@ -2,10 +2,9 @@
 //!
 //! Standard output has a line for each case: how many dots or codes, and a sum of them. Standard
 //! error has the nanoseconds that they took.
-#![tactic(auto)]
-
 ghost use Rattle.std.specs.Prelude.{◌≡◌, ◌≤◌, ◌<◌, ◌+◌, vec_len};
 
+use crate::no_memory;
 use img_map::{Pick, row_samples};
 use img_samples::Gather;
 use page_model::{Bytes, Image, ImageMap};
@@ -13,7 +12,6 @@ use press_fault::Mem;
 use press_nums::{Fix, Wide};
 use std::alloc::Global;
 use std::io;
-use std::io::ErrorKind;
 use std::time::Instant;
 
 /// How many rows of the page are mapped.
@@ -140,12 +138,8 @@ fn prepared(alloc: Global) -> Mem<Setting> {
     })
 }
 
-/// What a benchmark answers that finds no memory.
-fn no_memory() -> io::Error {
-    io::Error::from(ErrorKind::OutOfMemory)
-}
-
-fn main(rt: HostRuntime) -> io::Result<()> {
+/// Prints what each case found.
+pub(crate) fn run(rt: &HostRuntime) -> io::Result<()> {
     let Ok(setting) = prepared(rt.alloc()) else {
         return Err(no_memory());
     };
@@ -156,7 +150,7 @@ fn main(rt: HostRuntime) -> io::Result<()> {
         bytes,
         mask,
     } = setting;
-    map_rows(&rt, &image, &mut picks)?;
-    feed(&rt, "bytes", bytes, &piece, 256)?;
-    feed(&rt, "mask", mask, &piece, 32)
+    map_rows(rt, &image, &mut picks)?;
+    feed(rt, "bytes", bytes, &piece, 256)?;
+    feed(rt, "mask", mask, &piece, 32)
 }

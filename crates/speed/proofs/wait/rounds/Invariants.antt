@@ -1,7 +1,7 @@
 use Rattle.std.proofs.Common.{◌≡◌}
 use Rattle.turnstile.specs.Tokens.{id_of, lock_of}
 use Rattle.turnstile.specs.declared.claim.Claim.TheVariants.{Free}
-use Rattle.wait_speed.proofs.rounds.Given as goal
+use Rattle.speed.proofs.wait.rounds.Given as goal
 
 -- the seat is of this cache, and claims nothing
 abbrev pub invariant-loop : goal.invariant-loop

@@ -1,11 +1,5 @@
 use Rattle.std.specs.Prelude.{◌∷◌, []}
-use Rattle.wait_speed.proofs.run.Given as goal
-
-abbrev pub ghosts-by_one-N-CacheName : goal.ghosts-by_one-N-CacheName
-ghosts-by_one-N-CacheName g a = record { capacity = 8; seats = 4; askable = (0 ∷ []) ∷ [] }
-
-abbrev pub ghosts-by_one-N-Ledger : goal.ghosts-by_one-N-Ledger
-ghosts-by_one-N-Ledger g a = record { name = a.blank.name; parts = a.blank.parts }
+use Rattle.speed.proofs.wait.run_waiting.Given as goal
 
 abbrev pub ghosts-by_four-N-CacheName : goal.ghosts-by_four-N-CacheName
 ghosts-by_four-N-CacheName g a =
