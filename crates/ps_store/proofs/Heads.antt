@@ -41,7 +41,7 @@ pub same_short : (xs ys : List ℕ) (h k : ℕ) → to_le_bytes w64 h ≡ head_b
 same_short xs ys h k is other same sizes short =
     sym ((bytes_decides xs ys).1 (same_heads xs ys (sym is ∙ (ap (to_le_bytes w64) same ∙ other)) sizes short))
 
-size : (xs : List ℕ) → length (head_bytes xs) ≡ 8
+pub size : (xs : List ℕ) → length (head_bytes xs) ≡ 8
 size xs =
     let all : length (xs ++ replicate 8 0) ≡ length xs + 8 = length-append xs (replicate 8 0) in
     let front = length-take 8 (xs ++ replicate 8 0) in

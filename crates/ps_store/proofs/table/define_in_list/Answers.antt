@@ -1,23 +1,27 @@
 use Rattle.std.proofs.Common.{◌≡◌, ◌∙◌, sym, ap, length, drop, arith}
 use Rattle.std.proofs.lemmas.List.{take_at}
-use Rattle.indexmap.specs.IndexMap.{insert_entry}
-use Rattle.ps_store.specs.Keys.{same_key}
+use Rattle.ps_store.specs.declared.key.Key.{Key}
+use Rattle.ps_store.specs.declared.obj.Obj.{Obj}
 use Rattle.ps_store.proofs.Listed.{entered_at, entered_last, found_first}
 use Rattle.ps_store.proofs.table.define_in_list.Goals as goal
 
 pub returns-in-Some-clause-ok : goal.returns-in-Some-clause-ok
 returns-in-Some-clause-ok c =
     let es = c.args.list.now.items in
-    let d = (c.args.key, c.args.value) in
+    let d : Key × Obj = (c.args.key, c.args.value) in
     let first = rw c.deref.ensures.value at c.in-Some.ensures in
     let now = c.replace_value.ensures d in
-    ?
+    let is = rw c.deref_mut.ensures.value at now in
+    let a = c.replace_value.auto in let b = c.deref_mut.ensures.len in let e = c.deref_mut.ensures.value in
+    take_at c.replace_value.new.list (drop (length c.replace_value.new.list) es) c.args.list.now.len ?
+    ∙ (is ∙ sym (entered_at es c.args.key c.args.value c.in-Some.at d first))
 
 pub returns-in-Some-clause-is_new : goal.returns-in-Some-clause-is_new
 returns-in-Some-clause-is_new c =
-    found_first c.args.list.now.items c.args.key c.in-Some.at c.in-Some.ensures
+    let first = rw c.deref.ensures.value at c.in-Some.ensures in
+    found_first c.args.list.now.items c.args.key c.in-Some.at first
 
 pub returns-in_ok-add_entry-in-None-clause-ok : goal.returns-in_ok-add_entry-in-None-clause-ok
 returns-in_ok-add_entry-in-None-clause-ok c =
-    c.in_ok-add_entry-in-None.ensures.ok
-    ∙ sym (entered_last c.args.list.now.items c.args.key c.args.value c.in-None.ensures)
+    let none = rw c.deref.ensures.value at c.in-None.ensures in
+    c.in_ok-add_entry-in-None.ensures.ok ∙ sym (entered_last c.args.list.now.items c.args.key c.args.value none)
