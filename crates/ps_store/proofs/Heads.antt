@@ -8,7 +8,8 @@ use Rattle.std.proofs.lemmas.Bool.{cases_lt, false_from_ne_true}
 use Rattle.std.proofs.lemmas.Nat.{le_bytes_8}
 use Rattle.std.proofs.lemmas.List.{take-take, take_at, length-append, length-take, take-append-drop, drop-take, drop_at}
 use Rattle.std.proofs.lemmas.List.{drop_all, take-replicate, drop-replicate, take_more_set, take_more, get_or-take}
-use Rattle.std.proofs.lemmas.List.{get_or_append_left, drop-set-lt}
+use Rattle.std.proofs.lemmas.List.{get_or_append_left, drop-set-lt, get_or-replicate, get_or_past, length-replicate}
+use Rattle.std.proofs.lemmas.List.{get_or-append_right}
 use Rattle.std.proofs.lemmas.Grind.{drop_more_same}
 use Rattle.ps_store.specs.Code.Hashing.{head_bytes}
 
@@ -41,7 +42,7 @@ pub same_short : (xs ys : List ℕ) (h k : ℕ) → to_le_bytes w64 h ≡ head_b
 same_short xs ys h k is other same sizes short =
     sym ((bytes_decides xs ys).1 (same_heads xs ys (sym is ∙ (ap (to_le_bytes w64) same ∙ other)) sizes short))
 
-pub size : (xs : List ℕ) → length (head_bytes xs) ≡ 8
+size : (xs : List ℕ) → length (head_bytes xs) ≡ 8
 size xs =
     let all : length (xs ++ replicate 8 0) ≡ length xs + 8 = length-append xs (replicate 8 0) in
     let front = length-take 8 (xs ++ replicate 8 0) in
@@ -86,7 +87,27 @@ pub back_more : (first : List ℕ) (at b : ℕ) → drop at first ≡ drop at (r
 back_more first at b back =
     drop-set-lt (at + 1) first at b (omega arith) ∙ drop_more_same first (replicate 8 0) at back
 
--- what is read of the bytes as a number gives them back
-pub read_back : (xs first : List ℕ) (n : ℕ) → length first ≡ 8 → ((i : ℕ) → get_or first i 0 < 256) →
-    first ≡ head_bytes xs → n ≡ from_le_bytes w64 first → to_le_bytes w64 n ≡ head_bytes xs
-read_back xs first n long small is read = le_bytes_8 first n long small read ∙ is
+zero_at : (n i : ℕ) → get_or (replicate n 0) i 0 ≡ 0
+zero_at n i = ⊎_elim (λ near. get_or-replicate n i 0 0 near)
+    (λ far. get_or_past (replicate n 0) i 0 (omega (arith, length-replicate n 0, far))) (cases_lt i n)
+
+padded_at : (xs : List ℕ) (n : ℕ) → ((i : ℕ) → get_or xs i 0 < 256) → (i : ℕ) →
+    get_or (xs ++ replicate n 0) i 0 < 256
+padded_at xs n small i = ⊎_elim
+    (λ near. let is = get_or_append_left xs (replicate n 0) 0 i near in
+    let below = small i in omega (arith, is, below))
+    (λ far. let is = get_or-append_right xs (replicate n 0) (length xs) i 0 refl far in
+    let none = zero_at n (i - length xs) in omega (arith, is, none))
+    (cases_lt i (length xs))
+
+taken_at : (xs : List ℕ) (n : ℕ) → ((i : ℕ) → get_or xs i 0 < 256) → (i : ℕ) → get_or (take n xs) i 0 < 256
+taken_at xs n small i = ⊎_elim
+    (λ near. let is = get_or-take n xs i 0 near in let below = small i in omega (arith, is, below))
+    (λ far. let is = get_or_past (take n xs) i 0 (omega (arith, length-take n xs, far)) in omega (arith, is))
+    (cases_lt i n)
+
+-- what is read of the first eight bytes as a number gives them back
+pub read_back : (xs first : List ℕ) (n : ℕ) → ((i : ℕ) → get_or xs i 0 < 256) → first ≡ head_bytes xs →
+    n ≡ from_le_bytes w64 first → to_le_bytes w64 n ≡ head_bytes xs
+read_back xs first n small is read = le_bytes_8 (head_bytes xs) n (size xs)
+    (taken_at (xs ++ replicate 8 0) 8 (padded_at xs 8 small)) (read ∙ ap (from_le_bytes w64) is)

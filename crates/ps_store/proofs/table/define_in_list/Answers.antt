@@ -1,4 +1,4 @@
-use Rattle.std.proofs.Common.{◌≡◌, ◌∙◌, sym, ap, length, drop, arith}
+use Rattle.std.proofs.Common.{◌≡◌, ◌∙◌, sym, ap, length, length-set, get_or, drop}
 use Rattle.std.proofs.lemmas.List.{take_at}
 use Rattle.ps_store.specs.declared.key.Key.{Key}
 use Rattle.ps_store.specs.declared.obj.Obj.{Obj}
@@ -12,8 +12,11 @@ returns-in-Some-clause-ok c =
     let first = rw c.deref.ensures.value at c.in-Some.ensures in
     let now = c.replace_value.ensures d in
     let is = rw c.deref_mut.ensures.value at now in
-    let a = c.replace_value.auto in let b = c.deref_mut.ensures.len in let e = c.deref_mut.ensures.value in
-    take_at c.replace_value.new.list (drop (length c.replace_value.new.list) es) c.args.list.now.len ?
+    let place = c.in-Some.at in
+    let long = ap length is ∙ length-set es place ((get_or es place d).0, c.args.value) in
+    let items = ap length c.deref_mut.ensures.value in
+    take_at c.replace_value.new.list (drop (length c.replace_value.new.list) es) c.args.list.now.len
+    (long ∙ (sym items ∙ c.deref_mut.ensures.len))
     ∙ (is ∙ sym (entered_at es c.args.key c.args.value c.in-Some.at d first))
 
 pub returns-in-Some-clause-is_new : goal.returns-in-Some-clause-is_new
