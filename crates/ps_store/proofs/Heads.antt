@@ -87,9 +87,9 @@ pub back_more : (first : List ℕ) (at b : ℕ) → drop at first ≡ drop at (r
 back_more first at b back =
     drop-set-lt (at + 1) first at b (omega arith) ∙ drop_more_same first (replicate 8 0) at back
 
-zero_at : (n i : ℕ) → get_or (replicate n 0) i 0 ≡ 0
-zero_at n i = ⊎_elim (λ near. get_or-replicate n i 0 0 near)
-    (λ far. get_or_past (replicate n 0) i 0 (omega (arith, length-replicate n 0, far))) (cases_lt i n)
+filled_at : (n i z : ℕ) → get_or (replicate n z) i z ≡ z
+filled_at n i z = ⊎_elim (λ near. get_or-replicate n i z z near)
+    (λ far. get_or_past (replicate n z) i z (omega (arith, length-replicate n z, far))) (cases_lt i n)
 
 padded_at : (xs : List ℕ) (n : ℕ) → ((i : ℕ) → get_or xs i 0 < 256) → (i : ℕ) →
     get_or (xs ++ replicate n 0) i 0 < 256
@@ -97,7 +97,7 @@ padded_at xs n small i = ⊎_elim
     (λ near. let is = get_or_append_left xs (replicate n 0) 0 i near in
     let below = small i in omega (arith, is, below))
     (λ far. let is = get_or-append_right xs (replicate n 0) (length xs) i 0 refl far in
-    let none = zero_at n (i - length xs) in omega (arith, is, none))
+    let none = filled_at n (i - length xs) 0 in omega (arith, is, none))
     (cases_lt i (length xs))
 
 taken_at : (xs : List ℕ) (n : ℕ) → ((i : ℕ) → get_or xs i 0 < 256) → (i : ℕ) → get_or (take n xs) i 0 < 256
