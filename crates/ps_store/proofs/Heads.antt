@@ -1,6 +1,6 @@
 -- The first eight bytes of a name.
-use Rattle.std.proofs.Common.{◌≡◌, ◌≢◌, ◌≤◌, ◌<◌, ◌+◌, ◌-◌, ◌++◌, ℕ, min, true, false, List, [], ◌∷◌, length, take, drop}
-use Rattle.std.proofs.Common.{replicate, get_or, set, refl, sym, ap, ◌∙◌, ⊎_elim, arith}
+use Rattle.std.proofs.Common.{◌≡◌, ◌≢◌, ◌≤◌, ◌<◌, ◌+◌, ◌-◌, ◌++◌, ℕ, min, true, false, List, [], ◌∷◌, length, take}
+use Rattle.std.proofs.Common.{drop, replicate, get_or, set, refl, sym, ap, ◌∙◌, ⊎_elim, arith}
 use Rattle.std.specs.Int.{w64, from_le_bytes, to_le_bytes}
 use Rattle.std.specs.Str.{bytes_eq}
 use Rattle.std.specs.Cmp.Lexicographic.{bytes_decides}
