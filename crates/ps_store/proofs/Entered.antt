@@ -128,3 +128,14 @@ pub met : (test : Key → Bool) (xs : List (Key × Obj)) (i : ℕ) (e : Key × O
 met test xs i e r is hit held =
     sym (ap (lookup test) (next_entry xs i e is)
     ∙ ap (λ b. cond b (Some e.1) (lookup test (drop (i + 1) xs))) hit) ∙ held
+
+bounded : (o : Option Obj) (n m : ℕ) → n ≤ 65535 → (IsNone o → n < 65535) → m ≡ n + one (not (is_some o)) → m ≤ 65535
+bounded None n m few room is = let more = room refl in omega (arith, is, more)
+bounded (Some x) n m few room is = omega (arith, is, few)
+
+-- an entry more is room for, where its key is new
+pub few_still : (es : List (Key × Obj)) (k : Key) (v : Obj) → length es ≤ 65535 →
+    (IsNone (lookup (same_key k) es) → length es < 65535) → length (insert_entry same_key es k v) ≤ 65535
+few_still es k v few room =
+    bounded (lookup (same_key k) es) (length es) (length (insert_entry same_key es k v)) few room
+    (length_entered es (k, v))

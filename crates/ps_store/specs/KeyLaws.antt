@@ -4,6 +4,7 @@ use Rattle.std.proofs.Common.{ap, sym, refl, true≢false}
 use Rattle.std.specs.Cmp.{IsEquivalence, int_eq_equiv, bool_eq_equiv, on_equiv, signed_Decides}
 use Rattle.std.specs.Cmp.Lexicographic.{nat_list_eq_equiv, bytes_decides}
 use Rattle.std.specs.Hash as fed
+use Rattle.ps_store.specs.Code.Hashing.{hash_of}
 use Rattle.ps_store.specs.declared.key.Key.{Key}
 use Rattle.ps_store.specs.Keys.{KeyValue, StoredBytes, Count, TruthValue, value_of, same_value, same_key, input_of}
 
@@ -45,7 +46,7 @@ pub same_key_equiv : IsEquivalence same_key
 same_key_equiv = on_equiv value_of (record { refl = is_itself; symm = flips; congr = alike })
 
 fed_alike : (x y : KeyValue) → same_value x y ≡ true → input_of x ≡ input_of y
-fed_alike (StoredBytes a) (StoredBytes b) h = ap (fed.slice fed.u8) ((bytes_decides a b).0 h)
+fed_alike (StoredBytes a) (StoredBytes b) h = ap (λ name. fed.u32 (hash_of name)) ((bytes_decides a b).0 h)
 fed_alike (Count a) (Count b) h = ap fed.i64 ((signed_Decides a b).0 h)
 fed_alike (TruthValue true) (TruthValue true) h = refl
 fed_alike (TruthValue false) (TruthValue false) h = refl

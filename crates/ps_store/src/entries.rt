@@ -1,6 +1,5 @@
 //! The entries of a dictionary.
-ghost use Rattle.std.specs.Prelude.{◌≡◌, ◌≤◌, ◌<◌, [], length, not, OnOk, OnErr, IfOk, IfSome, IsNone, IsTrue, Some};
-ghost use Rattle.std.specs.Prelude.{slice_get};
+ghost use Rattle.std.specs.Prelude.{◌≡◌, ◌≤◌, ◌<◌, [], length, not, OnOk, OnErr, IfOk, IsNone, slice_get};
 ghost use Rattle.std.specs.Map.{lookup};
 ghost use Rattle.std.specs.Option.{option_copied, option_map, is_some};
 ghost use Rattle.std.specs.Map.Iter.{deref_pair};
@@ -8,10 +7,11 @@ ghost use Rattle.indexmap.specs.IndexMap.{insert_entry};
 ghost use Rattle.ps_store.specs.Keys.{same_key};
 
 use crate::key::Key;
+use crate::marks::Marks;
 use crate::obj::Obj;
 use crate::sought::{By, Sought};
-use crate::symbol::Symbol;
-use indexmap::IndexMap;
+use crate::symbol::{Symbol, hash_of};
+use crate::table::Table;
 use press_fault::Mem;
 use std::alloc::Global;
 use std::marker::Model;
@@ -22,19 +22,22 @@ pub const ENTRY_LIMIT: usize = 65_535;
 /// The entries of a dictionary, in the order in which they were first defined.
 #[derive(Drop)]
 pub struct Entries {
-    map: IndexMap<Key, Obj>,
+    alloc: Global,
+    marks: Marks,
+    table: Table,
 }
 
 impl Model for Entries {
-    ghost use Rattle.std.specs.Prelude.{List, length, ◌≤◌};
+    ghost use Rattle.std.specs.Prelude.{List};
     ghost use Rattle.ps_store.specs.declared.obj.Obj.{Obj};
     ghost use Rattle.ps_store.specs.declared.key.Key.{Key};
+    ghost use Rattle.ps_store.specs.Code.Entering.{entries_in_table, AreKept};
 
     ghost Value = { List (Key × Obj) };
 
-    ghost view = { λ e. e.map.entries };
+    ghost view = { λ e. entries_in_table e.table };
 
-    ghost invariant = { λ e. length e.map.entries ≤ 65535 };
+    ghost invariant = { λ e. AreKept e.marks (entries_in_table e.table) };
 }
 
 impl Entries {
@@ -43,7 +46,9 @@ impl Entries {
         ensures { result ≡ [] }
     {
         Entries {
-            map: IndexMap::new(alloc),
+            alloc,
+            marks: Marks::none(),
+            table: Table::new(alloc),
         }
     }
 
@@ -52,7 +57,7 @@ impl Entries {
         ensures length { result ≡ length self.now }
         ensures bound { result ≤ 65535 }
     {
-        self.map.len()
+        self.table.len()
     }
 
     /// The value of a key. It takes no memory.
@@ -69,63 +74,31 @@ impl Entries {
     pub(crate) fn look_up_key(&self, key: &Key) -> Option<&Obj>
         ensures { option_copied result ≡ lookup (same_key key.now) self.now }
     {
-        self.map.get(key)
-    }
-
-    /// The value of the name of these bytes.
-    ///
-    /// It goes through the entries one by one: no symbol has the bytes, so this is rare.
-    fn look_up_bytes(&self, bytes: &[u8]) -> Option<&Obj>
-        ensures { option_copied result ≡ lookup (same_key (Key.Named bytes.now)) self.now }
-    {
-        for place in 0..self.len() {
-            let Some((key, value)) = self.at(place) else {
-                unreachable!();
-            };
-            if is_spelled(key, bytes) {
-                return Some(value);
-            }
+        match key {
+            Key::Named(name) => self.look_up_name(name),
+            _ => self.table.look_up(key),
         }
-        None
     }
 
-    /// The value of a name, looked for first at the place where a dictionary had it last.
+    /// The value of a name. It hashes no bytes.
     pub fn look_up_name(&self, name: &Symbol) -> Option<&Obj>
         ensures { option_copied result ≡ lookup (same_key (Key.Named name.now)) self.now }
     {
-        match self.at_last_place(name) {
-            Some(value) => Some(value),
-            None => self.find_name(name),
+        if self.marks.has(name.kept_hash()) {
+            self.table.look_up_name(name)
+        } else {
+            None
         }
     }
 
-    /// The value at the place where a dictionary had the name last, if its key is the name.
-    fn at_last_place(&self, name: &Symbol) -> Option<&Obj>
-        ensures { IfSome result (λ o. Some o.now ≡ lookup (same_key (Key.Named name.now)) self.now) }
+    /// The value of the name of these bytes, of which there is no symbol.
+    fn look_up_bytes(&self, bytes: &[u8]) -> Option<&Obj>
+        ensures { option_copied result ≡ lookup (same_key (Key.Named bytes.now)) self.now }
     {
-        match self.map.get_index(name.last_place()) {
-            Some((key, value)) => {
-                if is_named(key, name) {
-                    Some(value)
-                } else {
-                    None
-                }
-            }
-            None => None,
-        }
-    }
-
-    /// The value of a name, whose place is noted.
-    #[inline(never)]
-    fn find_name(&self, name: &Symbol) -> Option<&Obj>
-        ensures { option_copied result ≡ lookup (same_key (Key.Named name.now)) self.now }
-    {
-        match self.map.get_full(&Key::Named(name.again())) {
-            Some((place, _, value)) => {
-                name.found_at(noted(place));
-                Some(value)
-            }
-            None => None,
+        if self.marks.has(hash_of(bytes)) {
+            self.table.look_up_bytes(bytes)
+        } else {
+            None
         }
     }
 
@@ -133,7 +106,7 @@ impl Entries {
     pub fn at(&self, place: usize) -> Option<(&Key, &Obj)>
         ensures { option_map deref_pair result ≡ slice_get self.now place }
     {
-        self.map.get_index(place)
+        self.table.at(place)
     }
 
     /// Gives a key a value, and tells whether it is a new key. One that is there keeps its
@@ -144,32 +117,9 @@ impl Entries {
         ensures is_new { IfOk result (λ is_new. is_new ≡ not (is_some (lookup (same_key key) self.old))) }
         ensures err { OnErr result (self.new ≡ self.old) }
     {
-        let before = self.map.insert(key, value)?;
-        Ok(before.is_none())
+        let marks = self.marks.with(&key);
+        let is_new = self.table.define(self.alloc, key, value)?;
+        self.marks = marks;
+        Ok(is_new)
     }
-}
-
-/// Whether a key is the name.
-fn is_named(key: &Key, name: &Symbol) -> bool
-    ensures { IsTrue result → key.now ≡ Key.Named name.now }
-{
-    match key {
-        Key::Named(other) => *other == *name,
-        _ => false,
-    }
-}
-
-/// Whether a key is the name of these bytes.
-fn is_spelled(key: &Key, bytes: &[u8]) -> bool
-    ensures { result ≡ same_key (Key.Named bytes.now) key.now }
-{
-    match key {
-        Key::Named(name) => bytes == name.bytes(),
-        _ => false,
-    }
-}
-
-/// A place as it is noted.
-fn noted(place: usize) -> u32 {
-    if place < ENTRY_LIMIT { place as u32 } else { 0 }
 }

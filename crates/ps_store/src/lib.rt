@@ -12,6 +12,7 @@ mod entries;
 mod fault;
 mod gathering;
 mod key;
+mod marks;
 mod numbers;
 mod obj;
 mod oper;
@@ -20,6 +21,7 @@ mod stack;
 mod store;
 mod symbol;
 mod symbols;
+mod table;
 mod turning;
 mod type_names;
 

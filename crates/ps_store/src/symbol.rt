@@ -1,5 +1,8 @@
 //! Names that are kept for good.
 ghost use Rattle.std.specs.Prelude.{◌≡◌, ◌≤◌, length, IfOk};
+ghost use Rattle.std.specs.Str.{bytes_eq};
+ghost use Rattle.std.specs.Int.{w64, from_le_bytes, to_le_bytes};
+ghost use Rattle.ps_store.specs.Code.Hashing.{hash_of, head_bytes};
 
 use press_fault::{Mem, Name};
 use std::alloc::Global;
@@ -8,22 +11,25 @@ use std::fmt;
 use std::hash::{Hash, Hasher};
 use std::marker::Model;
 
-/// What is kept of a name: its bytes, at most 127, and the place at which a dictionary had it
-/// last. Contracts see the bytes alone.
+/// What is kept of a name: its bytes, at most 127, the first eight of them as a number, their hash,
+/// and the place at which a dictionary had it last. Contracts see the bytes alone.
 #[derive(Drop)]
 struct Kept {
+    hash: u32,
     last_place: Cell<u32>,
+    head: u64,
     bytes: &'static [u8],
 }
 
 impl Model for Kept {
-    ghost use Rattle.std.specs.Prelude.{List, ℕ, ◌≤◌, length};
+    ghost use Rattle.std.specs.Prelude.{List, ℕ};
+    ghost use Rattle.ps_store.specs.Code.Hashing.{IsKept};
 
     ghost Value = { List ℕ };
 
     ghost view = { λ kept. kept.bytes.now };
 
-    ghost invariant = { λ kept. length kept.bytes.now ≤ 127 };
+    ghost invariant = { λ kept. IsKept kept.hash kept.head kept.bytes.now };
 }
 
 impl Kept {
@@ -32,6 +38,23 @@ impl Kept {
         ensures short { length result.now ≤ 127 }
     {
         self.bytes
+    }
+
+    fn hash(&self) -> u32
+        ensures { result ≡ hash_of self.now }
+    {
+        self.hash
+    }
+
+    /// Whether it is the same name. The first eight bytes and the number of bytes decide, but for
+    /// long names.
+    fn is(&self, other: &Kept) -> bool
+        ensures { result ≡ bytes_eq self.now other.now }
+    {
+        if self.head != other.head || self.bytes.len() != other.bytes.len() {
+            return false;
+        }
+        self.bytes.len() <= 8 || self.bytes == other.bytes
     }
 
     fn last_place(&self) -> usize {
@@ -81,7 +104,7 @@ impl PartialEq for Symbol {
     ghost laws = { Prim.search (comparing, rules) };
 
     fn eq(&self, other: &Symbol) -> bool {
-        self.bytes() == other.bytes()
+        self.kept.is(other.kept)
     }
 }
 
@@ -93,16 +116,17 @@ impl Eq for Symbol {
 }
 
 impl Hash for Symbol {
-    ghost use Rattle.std.proofs.Common.{rules};
-    ghost use Rattle.std.specs.Cmp.Rules.{hashing};
+    ghost use Rattle.std.proofs.Common.{ap};
+    ghost use Rattle.std.specs.Cmp.Lexicographic.{bytes_decides};
     ghost use Rattle.std.specs.Hash as fed;
+    ghost use Rattle.ps_store.specs.Code.Hashing.{hash_of};
 
-    ghost hash_input = { λ symbol. fed.slice fed.u8 symbol };
+    ghost hash_input = { λ symbol. fed.u32 (hash_of symbol) };
 
-    ghost respects_eq = { Prim.search (hashing, rules) };
+    ghost respects_eq = { λ x y h. ap (λ name. fed.u32 (hash_of name)) ((bytes_decides x y).0 h) };
 
     fn hash<H: Hasher>(&self, state: &mut H) {
-        self.bytes().hash(state);
+        self.kept_hash().hash(state);
     }
 }
 
@@ -116,7 +140,9 @@ impl Symbol {
         let kept = Box::new(
             alloc,
             Kept {
+                hash: hash_of(bytes),
                 last_place: Cell::new(0),
+                head: head_of(bytes),
                 bytes,
             },
         )?;
@@ -149,6 +175,13 @@ impl Symbol {
         }
     }
 
+    /// The hash of the name's bytes.
+    pub(crate) fn kept_hash(&self) -> u32
+        ensures { result ≡ hash_of self.now }
+    {
+        self.kept.hash()
+    }
+
     /// The place at which a dictionary had the name last, a hint alone: it may be any place.
     pub(crate) fn last_place(&self) -> usize {
         self.kept.last_place()
@@ -158,4 +191,34 @@ impl Symbol {
     pub(crate) fn found_at(&self, place: u32) {
         self.kept.found_at(place);
     }
+}
+
+/// The hash of a name's bytes.
+pub(crate) fn hash_of(bytes: &[u8]) -> u32
+    ensures { result ≡ hash_of bytes.now }
+{
+    let mut hash: u32 = 2_166_136_261;
+    for byte in bytes {
+        hash = hash.wrapping_mul(16_777_619).wrapping_add(u32::from(*byte));
+    }
+    hash
+}
+
+/// The first eight bytes of a name as a number, with zeros behind a shorter one.
+fn head_of(bytes: &[u8]) -> u64
+    ensures value { result ≡ from_le_bytes w64 (head_bytes bytes.now) }
+    ensures bytes { to_le_bytes w64 result ≡ head_bytes bytes.now }
+{
+    u64::from_le_bytes(first_bytes(bytes))
+}
+
+/// The first eight bytes of a name, with zeros behind a shorter one.
+fn first_bytes(bytes: &[u8]) -> [u8; 8]
+    ensures { result ≡ head_bytes bytes.now }
+{
+    let mut first = [0; 8];
+    for at in 0..bytes.len().min(8) {
+        first[at] = bytes[at];
+    }
+    first
 }
