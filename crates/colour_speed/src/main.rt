@@ -1,7 +1,7 @@
-//! How fast colours go through two profiles.
+//! How fast colours go through two profiles: straight through both, and by a link.
 //!
 //! Standard output has a line for each case: how many colours, and a sum of them. Standard error has
-//! the nanoseconds that they took.
+//! the nanoseconds that they took, and those that each link took to build.
 #![tactic(auto)]
 
 mod profiles;
@@ -11,10 +11,12 @@ ghost use Rattle.icc_model.specs.Direct.{can_receive};
 
 use crate::profiles::{Words, of_lattice, of_matrix};
 use icc_model::{Intent, Profile, direct};
+use link_build::{Converter, Link, LinkKey, build};
 use press_fault::{Code, Mem};
 use std::alloc::Global;
 use std::io;
 use std::io::ErrorKind;
+use std::sync::Arc;
 use std::time::Instant;
 
 /// The red, the green and the blue column of sRGB, adapted to D50, in 1/65536.
@@ -68,6 +70,16 @@ fn sum_of(source: &Profile, target: &Profile, codes: &[Bytes]) -> u64
     sum
 }
 
+/// The sum of the colours of all codes, by a link.
+fn linked_sum_of(link: &Link, codes: &[Bytes]) -> u64 {
+    let channels = link.key().source().channels();
+    let mut sum = 0;
+    for bytes in codes {
+        sum = added(sum, link.convert(code_of(channels, *bytes)));
+    }
+    sum
+}
+
 fn case(
     rt: &HostRuntime,
     name: &str,
@@ -86,29 +98,71 @@ fn case(
     Ok(())
 }
 
+/// The same colours by a link, which is built first.
+fn link_case(rt: &HostRuntime, name: &str, key: &LinkKey, codes: &[Bytes]) -> io::Result<()> {
+    let start = Instant::now(rt)?;
+    let Ok(link) = build(rt.alloc(), key) else {
+        return Err(io::Error::from(ErrorKind::OutOfMemory));
+    };
+    let time = start.elapsed(rt)?;
+    eprintln!(rt; "{name}, build: {} ns", time.as_nanos())?;
+    let start = Instant::now(rt)?;
+    let sum = linked_sum_of(&link, codes);
+    let time = start.elapsed(rt)?;
+    println!(rt; "{name}: {} colours, sum {sum}", codes.len())?;
+    eprintln!(rt; "{name}: {} ns", time.as_nanos())?;
+    Ok(())
+}
+
 /// All that the cases need: codes, a source for each, and their target.
 #[derive(Drop)]
 struct Setting {
     codes: Vec<Bytes>,
-    matrix: Profile,
-    lattice: Profile,
-    target: Profile,
+    matrix: Arc<Profile>,
+    lattice: Arc<Profile>,
+    target: Arc<Profile>,
 }
 
 fn prepared(alloc: Global) -> Mem<Setting> {
     let mut words = Words::new();
     Ok(Setting {
-        matrix: of_matrix(alloc, SRGB)?,
-        lattice: of_lattice(alloc, &mut words)?,
-        target: of_matrix(alloc, ADOBE)?,
+        matrix: Arc::new(alloc, of_matrix(alloc, SRGB)?)?,
+        lattice: Arc::new(alloc, of_lattice(alloc, &mut words)?)?,
+        target: Arc::new(alloc, of_matrix(alloc, ADOBE)?)?,
         codes: codes_of(alloc, &mut words)?,
     })
+}
+
+/// The key of two profiles, where the target can receive.
+fn key_of(source: &Arc<Profile>, target: &Arc<Profile>) -> Mem<Option<LinkKey>> {
+    let source = Arc::try_clone(source)?;
+    let target = Arc::try_clone(target)?;
+    if !target.can_receive(Intent::Relative) {
+        return Ok(None);
+    }
+    Ok(Some(LinkKey::new(source, target, Intent::Relative)))
+}
+
+/// Colours straight through two profiles, and by their link.
+fn both(
+    rt: &HostRuntime,
+    name: &str,
+    source: &Arc<Profile>,
+    target: &Arc<Profile>,
+    codes: &[Bytes],
+) -> io::Result<()> {
+    case(rt, name, source, target, codes)?;
+    let Ok(Some(key)) = key_of(source, target) else {
+        return Err(io::Error::from(ErrorKind::OutOfMemory));
+    };
+    let linked = format!(in rt.alloc(); "{name} by a link")?;
+    link_case(rt, linked.as_str(), &key, codes)
 }
 
 fn main(rt: HostRuntime) -> io::Result<()> {
     let Ok(s) = prepared(rt.alloc()) else {
         return Err(io::Error::from(ErrorKind::OutOfMemory));
     };
-    case(&rt, "matrix to matrix", &s.matrix, &s.target, &s.codes)?;
-    case(&rt, "lattice to matrix", &s.lattice, &s.target, &s.codes)
+    both(&rt, "matrix to matrix", &s.matrix, &s.target, &s.codes)?;
+    both(&rt, "lattice to matrix", &s.lattice, &s.target, &s.codes)
 }
