@@ -45,3 +45,34 @@ pub part_of : (m k : ℕ) → m < k →
     unsigned_abs (clamped (pos 0) (pos 65535) (div_round (pos m *ℤ pos 65535) (pos k))) ≡ rounded (m * 65535) k
 part_of m k h = rw (quotient_is m k)
     (clamped_within _ (rounded_most (m * 65535) k 65535 (omega (arith, h)) (omega (arith, h))))
+
+part_as : (n d : ℤ) → pos 0 <ℤ n → n <ℤ d → unsigned_abs n < unsigned_abs d →
+    unsigned_abs (clamped (pos 0) (pos 65535) (div_round (n *ℤ pos 65535) d))
+    ≡ rounded (unsigned_abs n * 65535) (unsigned_abs d)
+part_as (pos m) (pos k) h e f = part_of m k f
+part_as (negsuc m) d h e f = absurd (omega (arith, ints, h))
+part_as (pos m) (negsuc k) h e f = absurd (omega (arith, ints, h, e))
+
+-- a part, by the magnitudes
+pub part_is : (n d : ℤ) → pos 0 <ℤ n → n <ℤ d →
+    unsigned_abs (clamped (pos 0) (pos 65535) (div_round (n *ℤ pos 65535) d))
+    ≡ rounded (unsigned_abs n * 65535) (unsigned_abs d)
+part_is n d h e = part_as n d h e (omega (arith, ints, h, e))
+
+-- a determinant below 0 has both signs changed
+pub solved_positive : (det : ℤ) (row xyz : PcsValue) → pos 0 <ℤ det →
+    unsigned_abs (solved det row xyz)
+    ≡ unsigned_abs (clamped (pos 0) (pos 65535) (div_round (dot row xyz *ℤ pos 65535) det))
+solved_positive (pos d) row xyz h = refl
+solved_positive (negsuc d) row xyz h = absurd (omega (arith, ints, h))
+
+negated_first : (n : ℤ) → neg_ℤ (n *ℤ pos 65535) ≡ neg_ℤ n *ℤ pos 65535
+negated_first n = omega (arith, ints)
+
+pub solved_negative : (det : ℤ) (row xyz : PcsValue) → det <ℤ pos 0 →
+    unsigned_abs (solved det row xyz)
+    ≡ unsigned_abs (clamped (pos 0) (pos 65535) (div_round (neg_ℤ (dot row xyz) *ℤ pos 65535) (neg_ℤ det)))
+solved_negative (pos d) row xyz h = absurd (omega (arith, ints, h))
+solved_negative (negsuc d) row xyz h =
+    ap (λ (z : ℤ). unsigned_abs (clamped (pos 0) (pos 65535) (div_round z (pos (suc d)))))
+    (negated_first (dot row xyz))

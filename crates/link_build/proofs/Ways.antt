@@ -13,15 +13,9 @@ use Rattle.icc_model.specs.declared.profile.Base.{Base}
 use Rattle.icc_model.specs.declared.profile.Base.TheVariants.{Matrix, Gray}
 use Rattle.icc_model.specs.declared.profile.Intent.{Intent}
 use Rattle.icc_model.specs.declared.profile.Transform.{Transform}
-use Rattle.link_build.specs.Code.Prepared.{MixtureValue, IsMixtureOf, mixture_of, share_at, share_of, xyz_of}
+use Rattle.link_build.specs.Code.Prepared.{MixtureValue, AreBytes, IsMixtureOf, mixture_of, share_at, share_of, xyz_of}
 use Rattle.link_build.specs.Code.Prepared.{InverseValue, IsInverseOf, IsBackOf, inverted}
 use Rattle.link_build.specs.Code.Way.{IsMixtureOfBase, IsInverseOfBase}
-
--- the first three values of a code are bytes
-pub record AreBytes (code : List ℕ) : Type 0 where
-  pub first : slice_index code 0 < 256
-  pub second : slice_index code 1 < 256
-  pub third : slice_index code 2 < 256
 
 xyz_alike : (r s g h b c : PcsValue) → r ≡ s → g ≡ h → b ≡ c → xyz_of r g b ≡ xyz_of s h c
 xyz_alike r s g h b c d e f =

@@ -8,6 +8,7 @@ use press_fault::Mem;
 use std::alloc::Global;
 
 /// A curve read backwards at each value of 16 bits: one pass over its codes, of any curve.
+#[tactic(auto, using(crate::proofs::Tables::back_none))]
 pub(crate) fn back_of(alloc: Global, curve: &Curve) -> Mem<Vec<u16>>
     ensures { IfOk result (λ codes. IsBackOf curve.now codes.items) }
 {
@@ -20,6 +21,7 @@ pub(crate) fn back_of(alloc: Global, curve: &Curve) -> Mem<Vec<u16>>
 }
 
 /// Adds a code for each value that it is the first to reach.
+#[tactic(auto, using(crate::proofs::Tables::reach_more, crate::proofs::Tables::reach_done))]
 fn reach(codes: &mut Vec<u16>, curve: &Curve, code: u16) -> Mem<()>
     requires last { code < 65535 }
     requires before { IsBackUpTo curve.now code codes.old.items }
@@ -33,6 +35,7 @@ fn reach(codes: &mut Vec<u16>, curve: &Curve, code: u16) -> Mem<()>
 }
 
 /// Adds the last code for each value that none before it reaches.
+#[tactic(auto, using(crate::proofs::Tables::fill_more, crate::proofs::Tables::fill_done))]
 fn fill(codes: &mut Vec<u16>, curve: &Curve) -> Mem<()>
     requires { IsBackUpTo curve.now 65535 codes.old.items }
     ensures { OnOk result (IsBackOf curve.now codes.new.items) }

@@ -1,6 +1,4 @@
 //! What takes colours from one profile to another, for a key.
-ghost use Rattle.std.specs.Prelude.{◌≡◌, ℕ, List, IfOk};
-
 use crate::key::LinkKey;
 use crate::link::{Link, build};
 use link_cache::{Made, Maker, Order};
@@ -43,6 +41,28 @@ pub trait Converter: Made<Key = LinkKey> {
 
 /// Makes links.
 pub struct LinkMaker;
+
+impl Made for Link {
+    type Key = LinkKey;
+
+    ghost use Rattle.link_build.specs.Key.{mark_of};
+
+    ghost mark = { mark_of };
+
+    ghost made_for = { λ link. link };
+
+    fn key(&self) -> &LinkKey {
+        self.key()
+    }
+
+    fn same(a: &LinkKey, b: &LinkKey) -> bool {
+        a.is_same(b)
+    }
+
+    fn copy_key(_alloc: Global, key: &LinkKey) -> Mem<LinkKey> {
+        key.copy()
+    }
+}
 
 impl Maker<Link> for LinkMaker {
     fn make(&self, alloc: Global, order: &Order<Link>) -> Mem<Link> {

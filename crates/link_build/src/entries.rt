@@ -72,9 +72,10 @@ impl Entries {
 }
 
 /// The values of one channel's input table.
+#[tactic(auto, using(crate::proofs::Tables::table_more))]
 fn table_of(alloc: Global, lut: &Lut, channel: u8) -> Mem<Vec<u16>>
     requires { channel < lut.now.inputs }
-    ensures { IfOk result (λ table. IsTableOf lut.now channel table.items) }
+    ensures { IfOk result (λ table. IsTableOf lut.now channel 256 table.items) }
 {
     let mut table = Vec::with_capacity(alloc, 256)?;
     for code in 0..256u16 {

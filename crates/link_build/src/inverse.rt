@@ -138,6 +138,7 @@ fn wide_linear(det: Wide, row: &Pcs, xyz: &Pcs) -> u16
 }
 
 /// The same in 64 bits.
+#[tactic(auto, using(crate::proofs::Ratios::solved_positive, crate::proofs::Ratios::solved_negative))]
 fn narrow_linear(det: Narrow, row: &Pcs, xyz: &Pcs) -> u16
     requires some { 0 < unsigned_abs det }
     requires det { unsigned_abs det < 2 ^ 47 }
@@ -167,6 +168,7 @@ fn weighed(element: Wide, number: Wide) -> Narrow
 }
 
 /// n / d of 65535, from 0 to 65535, rounded to the nearest.
+#[tactic(auto, using(crate::proofs::Ratios::none_of, crate::proofs::Ratios::all_of, crate::proofs::Ratios::part_is))]
 fn ratio(n: Narrow, d: Narrow) -> u16
     requires positive { pos 0 <ℤ d }
     requires small { unsigned_abs d < 2 ^ 47 }

@@ -1,14 +1,12 @@
 //! Links: what is prepared for a key.
-ghost use Rattle.std.specs.Prelude.{◌≡◌, ◌<◌, ◌∷◌, [], IfOk, slice_index_or};
+ghost use Rattle.std.specs.Prelude.{◌≡◌, IfOk, length, slice_index_or, []};
 ghost use Rattle.icc_model.specs.Direct.{direct, direct_wide};
-ghost use Rattle.link_build.specs.Key.{mark_of};
 ghost use Rattle.link_build.specs.Code.Way.{AreColoursOf, IsSourceOf, IsTargetOf, IsWayOf, code_of_one};
 
 use crate::key::LinkKey;
 use crate::source::Source;
 use crate::target::Target;
 use icc_model::{carried, narrowed};
-use link_cache::Made;
 use press_fault::{Code, Mem};
 use std::alloc::Global;
 use std::marker::Model;
@@ -65,16 +63,12 @@ fn way_of(alloc: Global, key: &LinkKey) -> Mem<Way>
 }
 
 /// The colours of all codes of one channel.
-fn colours_of(
-    alloc: Global,
-    key: &LinkKey,
-    source: &Source,
-    target: &Target,
-) -> Mem<Vec<[u16; 3]>>
+#[tactic(auto, using(crate::proofs::Colours::colours_more))]
+fn colours_of(alloc: Global, key: &LinkKey, source: &Source, target: &Target) -> Mem<Vec<[u16; 3]>>
     requires channels { key.now.source.channels ≡ 1 }
     requires source { IsSourceOf key.now.source key.now.intent source.now }
     requires target { IsTargetOf key.now.target key.now.intent target.now }
-    ensures { IfOk result (λ colours. AreColoursOf key.now colours.items) }
+    ensures { IfOk result (λ colours. AreColoursOf key.now 256 colours.items) }
 {
     let mut colours = Vec::with_capacity(alloc, 256)?;
     for v in 0..256u16 {
@@ -141,27 +135,5 @@ impl Link {
     {
         let [first, second, third] = self.colour_wide(code);
         [narrowed(first), narrowed(second), narrowed(third)]
-    }
-}
-
-impl Made for Link {
-    type Key = LinkKey;
-
-    ghost use Rattle.link_build.specs.Key.{mark_of};
-
-    ghost mark = { mark_of };
-
-    ghost made_for = { λ link. link };
-
-    fn key(&self) -> &LinkKey {
-        self.key()
-    }
-
-    fn same(a: &LinkKey, b: &LinkKey) -> bool {
-        a.is_same(b)
-    }
-
-    fn copy_key(_alloc: Global, key: &LinkKey) -> Mem<LinkKey> {
-        key.copy()
     }
 }

@@ -3,7 +3,7 @@ ghost use Rattle.std.specs.Prelude.{◌≡◌, ◌≤◌, ◌<◌, ◌^◌, ◌*
 ghost use Rattle.icc_tables.specs.Pcs.{IsXyz};
 ghost use Rattle.icc_model.specs.Direct.{AreWithin};
 ghost use Rattle.link_build.specs.Code.Prepared.{share_of, share_at, whole_of, mixture_of, AreShares, AreSmallShares};
-ghost use Rattle.link_build.specs.Code.Prepared.{IsMixtureOf};
+ghost use Rattle.link_build.specs.Code.Prepared.{IsMixtureOf, AreBytes};
 
 use crate::narrow::Narrow;
 use icc_model::{Curve, Pcs, column, curve_at};
@@ -46,8 +46,8 @@ impl Model for Mixture {
 
     ghost view = { λ m. record { red = m.red.items; green = m.green.items; blue = m.blue.items } };
 
-    ghost invariant = { λ m. AreSmallShares m.red.items × AreSmallShares m.green.items
-        × AreSmallShares m.blue.items };
+    ghost invariant = { λ m. AreSmallShares 256 m.red.items × AreSmallShares 256 m.green.items
+        × AreSmallShares 256 m.blue.items };
 }
 
 impl Mixture {
@@ -80,10 +80,10 @@ impl Mixture {
 }
 
 /// The shares of the 256 codes of a channel.
+#[tactic(auto, using(crate::proofs::Tables::shares_more))]
 fn shares_of(alloc: Global, column: &Pcs, curve: &Curve) -> Mem<Vec<Share>>
     requires { AreWithin (2 ^ 31) column.now }
-    ensures shares { IfOk result (λ shares. AreShares column.now curve.now shares.items) }
-    ensures small { IfOk result (λ shares. AreSmallShares shares.items) }
+    ensures { IfOk result (λ shares. AreShares column.now curve.now 256 shares.items) }
 {
     let mut shares = Vec::with_capacity(alloc, 256)?;
     for code in 0..256u16 {
@@ -115,7 +115,7 @@ fn times(element: Wide, linear: u16) -> Narrow
 
 /// The share of a code.
 fn share_at(shares: &[Share], code: u8) -> Share
-    requires { AreSmallShares shares.now }
+    requires { AreSmallShares 256 shares.now }
     ensures value { result ≡ share_at shares.now code }
     ensures small { AreWithin (2 ^ 47) result }
 {
@@ -132,4 +132,11 @@ fn whole_of(red: Narrow, green: Narrow, blue: Narrow) -> Wide
     ensures high { result ≤ℤ pos 131070 }
 {
     in_xyz((red + green + blue).by_65535().wide())
+}
+
+/// The values of a code are bytes.
+pub(crate) fn see_bytes(code: Code)
+    ensures { AreBytes code.c }
+{
+    let [_red, _green, _blue, _black] = code.c;
 }

@@ -2,10 +2,10 @@
 ghost use Rattle.std.specs.Prelude.{◌≡◌, IfOk};
 ghost use Rattle.icc_model.specs.Direct.{source_of, IsIn};
 ghost use Rattle.icc_model.specs.Profile.{chosen};
-ghost use Rattle.link_build.specs.Code.Way.{IsSourceOf, IsSourceBy, AreEntriesOf};
+ghost use Rattle.link_build.specs.Code.Way.{IsSourceOf, IsSourceBy, IsSourceOnBase, AreEntriesOf};
 
 use crate::entries::Entries;
-use crate::mixture::Mixture;
+use crate::mixture::{Mixture, see_bytes};
 use icc_model::{Base, Intent, Pcs, Profile, Transform, decoded, source_of};
 use press_fault::{Code, Mem};
 use std::alloc::Global;
@@ -28,12 +28,7 @@ impl Source {
     {
         match profile.chosen_forward(intent) {
             Some(transform) => of_transform(alloc, transform),
-            None => match profile.base() {
-                Some(Base::Matrix { columns, curves }) => {
-                    Ok(Source::Mixed(Mixture::of(alloc, columns, curves)?))
-                }
-                _ => Ok(Source::Forward),
-            },
+            None => of_base(alloc, profile),
         }
     }
 
@@ -45,10 +40,28 @@ impl Source {
         ensures range { IsIn profile.now.lab result }
     {
         match self {
-            Source::Mixed(mixture) => mixture.xyz(code),
+            Source::Mixed(mixture) => {
+                see_bytes(code);
+                mixture.xyz(code)
+            }
             Source::Points(entries) => pointed(entries, profile, intent, code),
             Source::Forward => source_of(profile, intent, code),
         }
+    }
+}
+
+/// What can be prepared of a matrix or a gray curve.
+fn of_base(alloc: Global, profile: &Profile) -> Mem<Source>
+    ensures { IfOk result (IsSourceOnBase profile.now) }
+{
+    match profile.base() {
+        Some(base) => match base {
+            Base::Matrix { columns, curves } => {
+                Ok(Source::Mixed(Mixture::of(alloc, columns, curves)?))
+            }
+            Base::Gray { .. } => Ok(Source::Forward),
+        },
+        None => Ok(Source::Forward),
     }
 }
 

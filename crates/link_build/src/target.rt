@@ -1,7 +1,7 @@
 //! The way from the connection space to three values.
-ghost use Rattle.std.specs.Prelude.{◌≡◌, IfOk, IsTrue};
-ghost use Rattle.icc_model.specs.Direct.{target_of, can_receive, IsIn};
-ghost use Rattle.link_build.specs.Code.Way.{IsTargetOf};
+ghost use Rattle.std.specs.Prelude.{◌≡◌, None, IfOk, IsTrue};
+ghost use Rattle.icc_model.specs.Direct.{target_of, can_receive, receives_by, IsIn};
+ghost use Rattle.link_build.specs.Code.Way.{IsTargetOf, IsTargetOnBase};
 
 use crate::inverse::Inverse;
 use icc_model::{Base, Intent, Pcs, Profile, target_of};
@@ -19,18 +19,14 @@ pub(crate) enum Target {
 
 impl Target {
     /// What can be prepared of a profile, at an intent.
+    #[tactic(auto, unfolding(icc_model::specs::Direct::can_receive))]
     pub(crate) fn of(alloc: Global, profile: &Profile, intent: Intent) -> Mem<Target>
         requires { IsTrue (can_receive profile.now intent) }
         ensures { IfOk result (IsTargetOf profile.now intent) }
     {
         match profile.chosen_backward(intent) {
             Some(_transform) => Ok(Target::Backward),
-            None => match profile.base() {
-                Some(Base::Matrix { columns, curves }) => {
-                    Ok(Target::Inverted(Inverse::of(alloc, columns, curves)?))
-                }
-                _ => Ok(Target::Backward),
-            },
+            None => on_base(alloc, profile),
         }
     }
 
@@ -45,5 +41,21 @@ impl Target {
             Target::Inverted(inverse) => inverse.values(v),
             Target::Backward => target_of(profile, intent, v),
         }
+    }
+}
+
+/// What can be prepared of a matrix or a gray curve.
+fn on_base(alloc: Global, profile: &Profile) -> Mem<Target>
+    requires { IsTrue (receives_by None profile.now.base) }
+    ensures { IfOk result (IsTargetOnBase profile.now) }
+{
+    match profile.base() {
+        Some(base) => match base {
+            Base::Matrix { columns, curves } => {
+                Ok(Target::Inverted(Inverse::of(alloc, columns, curves)?))
+            }
+            Base::Gray { .. } => Ok(Target::Backward),
+        },
+        None => Ok(Target::Backward),
     }
 }

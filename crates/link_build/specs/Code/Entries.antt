@@ -7,11 +7,11 @@ abbrev pub value_of_code : LutValue → ℕ → ℕ → ℕ
 value_of_code lut channel code =
     entry_at lut.wide lut.before lut.before_count channel (if lut.wide then 257 * code else code)
 
--- the values that the input table of a channel gives the 256 codes
-pub record IsTableOf (lut : LutValue) (channel : ℕ) (table : List ℕ) : Type 0 where
-  pub count : length table ≡ 256
-  pub each : (code : ℕ) → code < 256 → slice_index table code ≡ value_of_code lut channel code
-  pub most : (code : ℕ) → code < 256 → slice_index table code ≤ top_of lut.wide
+-- the values that the input table of a channel gives the first codes
+pub record IsTableOf (lut : LutValue) (channel count : ℕ) (table : List ℕ) : Type 0 where
+  pub all : length table ≡ count
+  pub each : (code : ℕ) → code < count → slice_index table code ≡ value_of_code lut channel code
+  pub most : (code : ℕ) → code < count → slice_index table code ≤ top_of lut.wide
 
 -- four tables
 pub record EntriesValue : Type 0 where
@@ -22,7 +22,7 @@ pub record EntriesValue : Type 0 where
 
 -- the tables are those of a lut
 pub record IsEntriesOf (lut : LutValue) (entries : EntriesValue) : Type 0 where
-  pub first : IsTableOf lut 0 entries.first
-  pub second : IsTableOf lut 1 entries.second
-  pub third : IsTableOf lut 2 entries.third
-  pub fourth : lut.inputs ≡ 4 → IsTableOf lut 3 entries.fourth
+  pub first : IsTableOf lut 0 256 entries.first
+  pub second : IsTableOf lut 1 256 entries.second
+  pub third : IsTableOf lut 2 256 entries.third
+  pub fourth : lut.inputs ≡ 4 → IsTableOf lut 3 256 entries.fourth

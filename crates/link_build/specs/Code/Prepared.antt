@@ -30,15 +30,15 @@ xyz_of red green blue = record {
   third = whole_of red.third green.third blue.third;
 }
 
--- the shares of the 256 codes of a channel
-pub record AreShares (column : PcsValue) (curve : CurveValue) (shares : List PcsValue) : Type 0 where
-  pub count : length shares ≡ 256
-  pub each : (code : ℕ) → code < 256 → share_at shares code ≡ share_of column (linear_of curve code)
+-- so many shares that are small
+pub record AreSmallShares (count : ℕ) (shares : List PcsValue) : Type 0 where
+  pub all : length shares ≡ count
+  pub small : (code : ℕ) → code < count → AreWithin (2 ^ 47) (share_at shares code)
 
--- 256 shares that are small
-pub record AreSmallShares (shares : List PcsValue) : Type 0 where
-  pub count : length shares ≡ 256
-  pub each : (code : ℕ) → code < 256 → AreWithin (2 ^ 47) (share_at shares code)
+-- the shares of the first codes of a channel
+pub record AreShares (column : PcsValue) (curve : CurveValue) (count : ℕ) (shares : List PcsValue) : Type 0 where
+  pub small : AreSmallShares count shares
+  pub each : (code : ℕ) → code < count → share_at shares code ≡ share_of column (linear_of curve code)
 
 -- the shares of the codes of red, green and blue
 pub record MixtureValue : Type 0 where
@@ -54,9 +54,15 @@ mixture_of shares code =
 
 -- the shares are those of a matrix
 pub record IsMixtureOf (columns : List ℤ) (curves : List CurveValue) (shares : MixtureValue) : Type 0 where
-  pub red : AreShares (column columns 0) (curve_of curves 0) shares.red
-  pub green : AreShares (column columns 1) (curve_of curves 1) shares.green
-  pub blue : AreShares (column columns 2) (curve_of curves 2) shares.blue
+  pub red : AreShares (column columns 0) (curve_of curves 0) 256 shares.red
+  pub green : AreShares (column columns 1) (curve_of curves 1) 256 shares.green
+  pub blue : AreShares (column columns 2) (curve_of curves 2) 256 shares.blue
+
+-- the first three values of a code are bytes
+pub record AreBytes (code : List ℕ) : Type 0 where
+  pub first : slice_index code 0 < 256
+  pub second : slice_index code 1 < 256
+  pub third : slice_index code 2 < 256
 
 -- a curve read backwards at each value of 16 bits
 pub record IsBackOf (curve : CurveValue) (codes : List ℕ) : Type 0 where

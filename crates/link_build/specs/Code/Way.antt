@@ -36,6 +36,12 @@ IsSourceOf profile intent (Mixed shares) =
 IsSourceOf profile intent (Points entries) = AreEntriesOf (chosen profile.forward intent) entries
 IsSourceOf profile intent Forward = Unit {0}
 
+-- what is prepared of a matrix or a gray curve, if anything is, is its shares
+abbrev pub IsSourceOnBase : ProfileValue → Source → Type 0
+IsSourceOnBase profile (Mixed shares) = (profile.lab ≡ false) × IsMixtureOfBase profile.base shares
+IsSourceOnBase profile (Points entries) = ⊥
+IsSourceOnBase profile Forward = Unit {0}
+
 -- what is prepared of a transform, if anything is, is its tables
 abbrev pub IsSourceBy : Transform → Source → Type 0
 IsSourceBy transform (Mixed shares) = ⊥
@@ -54,18 +60,23 @@ IsTargetOf profile intent (Inverted inverse) =
     (chosen profile.backward intent ≡ None) × (profile.lab ≡ false) × IsInverseOfBase profile.base inverse
 IsTargetOf profile intent Backward = Unit {0}
 
+-- what is prepared of a matrix, if anything is, is its inverse
+abbrev pub IsTargetOnBase : ProfileValue → Target → Type 0
+IsTargetOnBase profile (Inverted inverse) = (profile.lab ≡ false) × IsInverseOfBase profile.base inverse
+IsTargetOnBase profile Backward = Unit {0}
+
 -- the code of one channel
 abbrev pub code_of_one : ℕ → CodeValue
 code_of_one v = record { n = 1; c = v ∷ 0 ∷ 0 ∷ 0 ∷ [] }
 
--- the colours of the 256 codes of one channel
-pub record AreColoursOf (key : LinkKeyValue) (colours : List (List ℕ)) : Type 0 where
-  pub count : length colours ≡ 256
-  pub each : (v : ℕ) → v < 256 →
+-- the colours of the first codes of one channel
+pub record AreColoursOf (key : LinkKeyValue) (count : ℕ) (colours : List (List ℕ)) : Type 0 where
+  pub all : length colours ≡ count
+  pub each : (v : ℕ) → v < count →
       slice_index_or colours v [] ≡ direct_wide key.source key.target key.intent (code_of_one v)
 
 -- what a link keeps is of its key
 abbrev pub IsWayOf : LinkKeyValue → Way → Type 0
-IsWayOf key (Single colours) = (key.source.channels ≡ 1) × AreColoursOf key colours
+IsWayOf key (Single colours) = (key.source.channels ≡ 1) × AreColoursOf key 256 colours
 IsWayOf key (Several source target) =
     IsSourceOf key.source key.intent source × IsTargetOf key.target key.intent target
