@@ -80,6 +80,7 @@ fn of_transform(alloc: Global, transform: &Transform) -> Mem<Source>
 }
 
 /// The connection space of a code, by the points of a lattice.
+#[tactic(auto, unfolding(icc_model::specs::Direct::source_of))]
 fn pointed(entries: &Entries, profile: &Profile, intent: Intent, code: Code) -> Pcs
     requires channels { code.n ≡ profile.now.channels }
     requires prepared { AreEntriesOf (chosen profile.now.forward intent) entries.now }

@@ -4,10 +4,16 @@ use icc_model::{Curve, Profile};
 use press_fault::Mem;
 use std::alloc::Global;
 
-/// The kinds of sources, by their number.
-pub(crate) const SOURCES: u8 = 10;
+/// The numbers of the sources by a matrix and by a gray curve.
+pub(crate) const MATRIX_AND_GRAY: [u8; 3] = [0, 1, 2];
 
-/// The kinds of targets, by their number.
+/// The numbers of the sources by luts of three channels.
+pub(crate) const LUTS_OF_THREE: [u8; 3] = [3, 4, 5];
+
+/// The numbers of the sources by luts of one channel and of four.
+pub(crate) const LUTS_OF_ONE_AND_FOUR: [u8; 4] = [6, 7, 8, 9];
+
+/// How many kinds of targets there are.
 pub(crate) const TARGETS: u8 = 6;
 
 fn bent(alloc: Global) -> Mem<Curve> {

@@ -1,7 +1,9 @@
 //! Colours of links beside colours straight through both profiles.
 ghost use Rattle.std.specs.Prelude.{◌<◌};
 
-use crate::kinds::{SOURCES, TARGETS, source, target};
+use crate::kinds::{
+    LUTS_OF_ONE_AND_FOUR, LUTS_OF_THREE, MATRIX_AND_GRAY, TARGETS, source, target,
+};
 use icc_direct_tests::profiles::code_of;
 use icc_model::{Intent, direct, direct_wide};
 use link_build::{Converter, Link, LinkKey, build};
@@ -63,12 +65,36 @@ fn all_agree(alloc: Global, from: u8, to: u8) -> Mem<bool> {
     Ok(true)
 }
 
-#[test]
-fn a_link_of_each_pair_of_kinds_is_direct(rt: HostRuntime) -> Result<(), Fail> {
-    for from in 0..SOURCES {
-        for to in 0..TARGETS {
-            assert!(rt; all_agree(rt.alloc(), from, to)?);
+/// Whether all codes of a source of some kind agree, with a target of each kind.
+fn all_agree_from(alloc: Global, from: u8) -> Mem<bool> {
+    for to in 0..TARGETS {
+        if !all_agree(alloc, from, to)? {
+            return Ok(false);
         }
+    }
+    Ok(true)
+}
+
+#[test]
+fn links_from_a_matrix_and_from_gray_are_direct(rt: HostRuntime) -> Result<(), Fail> {
+    for from in MATRIX_AND_GRAY {
+        assert!(rt; all_agree_from(rt.alloc(), from)?);
+    }
+    Ok(())
+}
+
+#[test]
+fn links_from_luts_of_three_channels_are_direct(rt: HostRuntime) -> Result<(), Fail> {
+    for from in LUTS_OF_THREE {
+        assert!(rt; all_agree_from(rt.alloc(), from)?);
+    }
+    Ok(())
+}
+
+#[test]
+fn links_from_luts_of_one_and_four_channels_are_direct(rt: HostRuntime) -> Result<(), Fail> {
+    for from in LUTS_OF_ONE_AND_FOUR {
+        assert!(rt; all_agree_from(rt.alloc(), from)?);
     }
     Ok(())
 }
