@@ -34,9 +34,7 @@ fn matrix(alloc: Global, columns: [i32; 9]) -> Mem<Profile> {
 const TURNED: [i32; 9] = [13453, 41004, 3989, 39960, 20389, 1276, 9777, 4143, 48796];
 
 /// Columns whose determinant and adjugate pass 64 bits.
-const LARGE: [i32; 9] = [
-    2000000000, 3, 7, -5, 1900000000, 11, 13, -17, 1800000000,
-];
+const LARGE: [i32; 9] = [2000000000, 3, 7, -5, 1900000000, 11, 13, -17, 1800000000];
 
 /// A source of each kind: a matrix; gray; luts of one, three and four channels, of 16 and of 8 bits,
 /// to XYZ and to Lab.

@@ -1,9 +1,7 @@
 //! Colours of links beside colours straight through both profiles.
 ghost use Rattle.std.specs.Prelude.{◌<◌};
 
-use crate::kinds::{
-    LUTS_OF_ONE_AND_FOUR, LUTS_OF_THREE, MATRIX_AND_GRAY, TARGETS, source, target,
-};
+use crate::kinds::{LUTS_OF_ONE_AND_FOUR, LUTS_OF_THREE, MATRIX_AND_GRAY, TARGETS, source, target};
 use icc_direct_tests::profiles::code_of;
 use icc_model::{Intent, direct, direct_wide};
 use link_build::{Converter, Link, LinkKey, build};
@@ -53,10 +51,7 @@ fn all_agree(alloc: Global, from: u8, to: u8) -> Mem<bool> {
     if !target.can_receive(Intent::Perceptual) {
         return Ok(false);
     }
-    let link = build(
-        alloc,
-        &LinkKey::new(source, target, Intent::Perceptual),
-    )?;
+    let link = build(alloc, &LinkKey::new(source, target, Intent::Perceptual))?;
     for number in 0..CODES {
         if !agrees(&link, number) {
             return Ok(false);
