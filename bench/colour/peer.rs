@@ -289,7 +289,7 @@ fn both(name: &str, source: &Source, target: &Matrix, codes: &[[u8; 4]]) {
     case(name, |code| direct(source, target, code), codes);
     let start = Instant::now();
     let link = build(source, target);
-    eprintln!("{name} by a link, build: {} ns", start.elapsed().as_nanos());
+    eprintln!("colour, {name} by a link, build: {} ns", start.elapsed().as_nanos());
     case(&format!("{name} by a link"), |code| convert(&link, code), codes);
 }
 

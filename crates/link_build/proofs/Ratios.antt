@@ -59,7 +59,7 @@ pub part_is : (n d : ℤ) → pos 0 <ℤ n → n <ℤ d →
     ≡ rounded (unsigned_abs n * 65535) (unsigned_abs d)
 part_is n d h e = part_as n d h e (omega (arith, ints, h, e))
 
--- a determinant below 0 has both signs changed
+-- a determinant above 0 divides as it is
 pub solved_positive : (det : ℤ) (row xyz : PcsValue) → pos 0 <ℤ det →
     unsigned_abs (solved det row xyz)
     ≡ unsigned_abs (clamped (pos 0) (pos 65535) (div_round (dot row xyz *ℤ pos 65535) det))
@@ -69,6 +69,7 @@ solved_positive (negsuc d) row xyz h = absurd (omega (arith, ints, h))
 negated_first : (n : ℤ) → neg_ℤ (n *ℤ pos 65535) ≡ neg_ℤ n *ℤ pos 65535
 negated_first n = omega (arith, ints)
 
+-- a determinant below 0 divides with both signs changed
 pub solved_negative : (det : ℤ) (row xyz : PcsValue) → det <ℤ pos 0 →
     unsigned_abs (solved det row xyz)
     ≡ unsigned_abs (clamped (pos 0) (pos 65535) (div_round (neg_ℤ (dot row xyz) *ℤ pos 65535) (neg_ℤ det)))

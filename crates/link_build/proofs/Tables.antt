@@ -1,6 +1,6 @@
 -- Tables that are made entry by entry, and curves read backwards at each value.
-use Rattle.std.proofs.Common.{◌≡◌, ◌∙◌, ℕ, ◌+◌, ◌^◌, ◌<◌, ◌≤◌, List, [], ◌∷◌, ◌++◌, length, slice_index, arith, sym, ap, subst}
-use Rattle.std.proofs.Common.{true, false, nat_le, refl, length-append}
+use Rattle.std.proofs.Common.{◌≡◌, ◌∙◌, ℕ, ◌+◌, ◌^◌, ◌<◌, ◌≤◌, List, [], ◌∷◌, ◌++◌, length, slice_index, arith}
+use Rattle.std.proofs.Common.{sym, ap, subst, true, false, nat_le, refl, length-append}
 use Rattle.std.specs.Prelude.{slice_index_or, pos}
 use Rattle.std.proofs.lemmas.Bool.{leb-true, le-leb}
 use Rattle.std.proofs.lemmas.List.{get_or_append_left, get_or_push}
@@ -22,7 +22,8 @@ each_more {X} P d xs ys x n count more before this k h = by_le n k
     let last : slice_index_or ys k d ≡ x = ap (λ (l : List X). slice_index_or l k d) more
     ∙ get_or_push xs x d k (count ∙ sym at) in
     subst (λ (z : X). P k z) (sym last) (subst (λ (m : ℕ). P m x) (sym at) this))
-    (λ e. let front : slice_index_or ys k d ≡ slice_index_or xs k d = ap (λ (l : List X). slice_index_or l k d) more
+    (λ e. let front : slice_index_or ys k d ≡ slice_index_or xs k d =
+    ap (λ (l : List X). slice_index_or l k d) more
     ∙ get_or_append_left xs (x ∷ []) d k (omega (arith, e, count)) in
     subst (λ (z : X). P k z) (sym front) (before k e))
 
@@ -37,7 +38,8 @@ back_is curve v r m f g = sym (least_is (λ code. nat_le v (curve_at curve code)
     (λ l. le-leb v _ (f l)) (λ s l. missed v _ (g s l)))
 
 -- a list with one element more is one longer
-pub pushed_count : {X : Type 0} (xs ys : List X) (x : X) (n : ℕ) → length xs ≡ n → ys ≡ xs ++ x ∷ [] → length ys ≡ n + 1
+pub pushed_count : {X : Type 0} (xs ys : List X) (x : X) (n : ℕ) → length xs ≡ n → ys ≡ xs ++ x ∷ [] →
+    length ys ≡ n + 1
 pushed_count {X} xs ys x n h e = ap (λ (l : List X). length l) e
     ∙ (length-append xs (x ∷ []) ∙ ap (λ (m : ℕ). m + 1) h)
 
@@ -53,7 +55,8 @@ shares_more column curve shares x n h is small = record {
         h.small.small small;
   };
   each = each_more (λ (k : ℕ) (s : PcsValue). s ≡ share_of column (linear_of curve k))
-      (record { first = pos 0; second = pos 0; third = pos 0 }) shares (shares ++ x ∷ []) x n h.small.all refl h.each is;
+      (record { first = pos 0; second = pos 0; third = pos 0 }) shares (shares ++ x ∷ []) x n h.small.all refl
+      h.each is;
 }
 
 -- the input table at one code more

@@ -1,5 +1,6 @@
 -- What a link prepares of a profile gives what the profile gives.
-use Rattle.std.proofs.Common.{◌≡◌, ◌∙◌, ℕ, ◌<◌, ◌^◌, List, [], ◌∷◌, slice_index, Option, Some, None, arith, sym, ap, refl}
+use Rattle.std.proofs.Common.{◌≡◌, ◌∙◌, ℕ, ◌<◌, ◌^◌, List, [], ◌∷◌, slice_index, Option, Some, None, arith, sym, ap}
+use Rattle.std.proofs.Common.{refl}
 use Rattle.std.specs.Prelude.{ℤ, pos, unsigned_abs, Bool}
 use Rattle.std.proofs.lemmas.Int.{ints}
 use Rattle.press_fault.specs.Plane.{CodeValue}

@@ -26,10 +26,12 @@ numbered Relative = refl
 numbered Saturation = refl
 
 one_front : (xs ys zs ws : List ℕ) → length xs ≡ length ys → xs ++ zs ≡ ys ++ ws → xs ≡ ys
-one_front xs ys zs ws h e = sym (take_at xs zs (length ys) h) ∙ (ap (take (length ys)) e ∙ take_at ys ws (length ys) refl)
+one_front xs ys zs ws h e = sym (take_at xs zs (length ys) h)
+    ∙ (ap (take (length ys)) e ∙ take_at ys ws (length ys) refl)
 
 one_back : (xs ys zs ws : List ℕ) → length xs ≡ length ys → xs ++ zs ≡ ys ++ ws → zs ≡ ws
-one_back xs ys zs ws h e = sym (drop_at xs zs (length ys) h) ∙ (ap (drop (length ys)) e ∙ drop_at ys ws (length ys) refl)
+one_back xs ys zs ws h e = sym (drop_at xs zs (length ys) h)
+    ∙ (ap (drop (length ys)) e ∙ drop_at ys ws (length ys) refl)
 
 -- keys of one mark have one intent and the same bytes
 pub of_one_mark : (a b : LinkKeyValue) → mark_of a ≡ mark_of b → AreOne a b
@@ -45,7 +47,8 @@ marks_alike : (i j : Intent) (s t u v : List ℕ) → i ≡ j → s ≡ t → u 
     (number_of i ∷ length s ∷ (s ++ u)) ≡ (number_of j ∷ length t ∷ (t ++ v))
 marks_alike i j s t u v e f g =
     ap (λ (k : Intent). number_of k ∷ length s ∷ (s ++ u)) e
-    ∙ (ap (λ (r : List ℕ). number_of j ∷ length r ∷ (r ++ u)) f ∙ ap (λ (r : List ℕ). number_of j ∷ length t ∷ (t ++ r)) g)
+    ∙ (ap (λ (r : List ℕ). number_of j ∷ length r ∷ (r ++ u)) f
+    ∙ ap (λ (r : List ℕ). number_of j ∷ length t ∷ (t ++ r)) g)
 
 -- keys of one intent and the same bytes have one mark
 pub to_one_mark : (a b : LinkKeyValue) → AreOne a b → mark_of a ≡ mark_of b

@@ -8,6 +8,7 @@ mod cache;
 mod colour;
 mod fill;
 mod flow;
+mod link;
 mod path;
 mod profiles;
 mod scan;

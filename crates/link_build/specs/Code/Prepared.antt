@@ -97,11 +97,11 @@ pub record IsInverse (i : InverseValue) : Type 0 where
   pub blue : length i.blue ≡ 65536
 
 -- a determinant and rows of an adjugate of which 64 bits hold all that comes
-pub record IsNarrow (det : ℤ) (red green blue : PcsValue) : Type 0 where
-  pub det : unsigned_abs det < 2 ^ 47
-  pub red : AreWithin (2 ^ 44) red
-  pub green : AreWithin (2 ^ 44) green
-  pub blue : AreWithin (2 ^ 44) blue
+pub record IsNarrow (d : ℤ) (r g b : PcsValue) : Type 0 where
+  pub det : unsigned_abs d < 2 ^ 47
+  pub red : AreWithin (2 ^ 44) r
+  pub green : AreWithin (2 ^ 44) g
+  pub blue : AreWithin (2 ^ 44) b
 
 -- the code of 16 bits that it gives XYZ
 abbrev pub inverted : InverseValue → PcsValue → List ℕ
