@@ -1,8 +1,12 @@
 -- The input tables of a lut, taken from tables of all codes.
-use Rattle.std.proofs.Common.{◌≡◌, ◌∙◌, ℕ, ◌<◌, ◌≤◌, List, [], ◌∷◌, slice_index, take, ap, subst, sym, tt}
+use Rattle.std.proofs.Common.{◌≡◌, ◌∙◌, ℕ, ◌<◌, ◌≤◌, List, [], ◌∷◌, slice_index, take, length, ap, subst, sym, refl, arith}
+use Rattle.std.specs.Prelude.{slice_index_or}
+use Rattle.press_fault.specs.Plane.{CodeValue, IsCode}
 use Rattle.icc_tables.specs.Lattice.{LutValue, IsPoint, through_tables, top_of}
 use Rattle.icc_model.specs.Direct.{entered}
 use Rattle.link_build.specs.Code.Entries.{EntriesValue, IsTableOf, IsEntriesOf, value_of_code}
+use Rattle.link_build.specs.Code.Prepared.{AreBytes}
+use Rattle.link_build.specs.Code.Way.{code_of_one}
 
 -- an entry is what its channel's table gives the code
 entry_is : (lut : LutValue) (channel code x : ℕ) (table : List ℕ) → IsTableOf lut channel 256 table → code < 256 →
@@ -42,3 +46,36 @@ pub four_entries : (lut : LutValue) (entries : EntriesValue) (a b c d x y z w : 
 four_entries lut entries a b c d x y z w four h l m n o e f g i = four_alike x y z w _ _ _ _
     (entry_is lut 0 a x entries.first h.first l e) (entry_is lut 1 b y entries.second h.second m f)
     (entry_is lut 2 c z entries.third h.third n g) (entry_is lut 3 d w entries.fourth (h.fourth four) o i)
+
+-- the point of a code of four channels
+pub four_point : (lut : LutValue) (entries : EntriesValue) (n : ℕ) (code : List ℕ) (x y z w : ℕ) → n ≡ 4 →
+    length code ≡ 4 → lut.inputs ≡ 4 → IsEntriesOf lut entries → AreBytes code →
+    x ≡ slice_index entries.first (slice_index code 0) → y ≡ slice_index entries.second (slice_index code 1) →
+    z ≡ slice_index entries.third (slice_index code 2) → w ≡ slice_index entries.fourth (slice_index code 3) →
+    (x ∷ y ∷ z ∷ w ∷ []) ≡ through_tables lut.wide lut.before lut.before_count 0 (entered lut.wide (take n code))
+four_point lut entries n (a ∷ b ∷ c ∷ d ∷ []) x y z w four all inputs h bytes e f g i =
+    rw four (four_entries lut entries a b c d x y z w inputs h bytes.first bytes.second bytes.third bytes.fourth e f g i)
+four_point lut entries n [] x y z w four all inputs h bytes e f g i = absurd (omega (arith, all))
+four_point lut entries n (a ∷ []) x y z w four all inputs h bytes e f g i = absurd (omega (arith, all))
+four_point lut entries n (a ∷ b ∷ []) x y z w four all inputs h bytes e f g i = absurd (omega (arith, all))
+four_point lut entries n (a ∷ b ∷ c ∷ []) x y z w four all inputs h bytes e f g i = absurd (omega (arith, all))
+four_point lut entries n (a ∷ b ∷ c ∷ d ∷ o ∷ more) x y z w four all inputs h bytes e f g i =
+    absurd (omega (arith, all))
+
+made : ℕ → List ℕ → CodeValue
+made n c = record { n = n; c = c }
+
+-- a code of one channel is that of its first value
+pub one_is : (code : CodeValue) (n : ℕ) (c : List ℕ) → made n c ≡ code → IsCode n c → code.n ≡ 1 → length c ≡ 4 →
+    code ≡ code_of_one (slice_index_or c 0 0)
+unfolding made
+one_is code n (v ∷ x ∷ y ∷ z ∷ []) view is one all =
+    let count : n ≡ 1 = ap (λ (p : CodeValue). p.n) view ∙ one in
+    sym view ∙ (ap (λ (m : ℕ). made m (v ∷ x ∷ y ∷ z ∷ [])) count
+    ∙ ap (λ (l : List ℕ). made 1 l) (four_alike v x y z v 0 0 0 refl (is.unused 1 (omega (arith, count)))
+    (is.unused 2 (omega (arith, count))) (is.unused 3 (omega (arith, count)))))
+one_is code n [] view is one all = absurd (omega (arith, all))
+one_is code n (v ∷ []) view is one all = absurd (omega (arith, all))
+one_is code n (v ∷ x ∷ []) view is one all = absurd (omega (arith, all))
+one_is code n (v ∷ x ∷ y ∷ []) view is one all = absurd (omega (arith, all))
+one_is code n (v ∷ x ∷ y ∷ z ∷ w ∷ more) view is one all = absurd (omega (arith, all))

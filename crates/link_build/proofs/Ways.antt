@@ -1,15 +1,16 @@
 -- What a link prepares of a profile gives what the profile gives.
 use Rattle.std.proofs.Common.{◌≡◌, ◌∙◌, ℕ, ◌<◌, ◌^◌, List, [], ◌∷◌, slice_index, Option, Some, None, arith, sym, ap}
 use Rattle.std.proofs.Common.{refl}
-use Rattle.std.specs.Prelude.{ℤ, pos, unsigned_abs, Bool}
+use Rattle.std.specs.Prelude.{ℤ, pos, ◌*ℤ◌, unsigned_abs, Bool}
 use Rattle.std.proofs.lemmas.Int.{ints}
+use Rattle.press_nums.specs.Rounding.{div_round_signed}
 use Rattle.press_fault.specs.Plane.{CodeValue}
 use Rattle.icc_tables.specs.Rounded.{clamped}
 use Rattle.icc_tables.specs.Curves.{CurveValue, curve_back}
 use Rattle.icc_tables.specs.Pcs.{PcsValue}
 use Rattle.icc_model.specs.Profile.{ProfileValue, chosen}
 use Rattle.icc_model.specs.Direct.{source_of, source_by, target_of, target_by, matrix_source, matrix_target, solved}
-use Rattle.icc_model.specs.Direct.{column, curve_of, linear_of, returned, determinant, cross}
+use Rattle.icc_model.specs.Direct.{column, curve_of, linear_of, returned, determinant, cross, dot}
 use Rattle.icc_model.specs.declared.profile.Base.{Base}
 use Rattle.icc_model.specs.declared.profile.Base.TheVariants.{Matrix, Gray}
 use Rattle.icc_model.specs.declared.profile.Intent.{Intent}
@@ -69,7 +70,7 @@ three_alike a b c x y z d e f = ap (λ (n : ℕ). n ∷ b ∷ c ∷ []) d
 channel_is : (codes : List ℕ) (curve : CurveValue) (d e : ℤ) (r s xyz : PcsValue) → IsBackOf curve codes → d ≡ e →
     r ≡ s → slice_index codes (unsigned_abs (solved d r xyz)) ≡ returned curve (solved e s xyz)
 channel_is codes curve d e r s xyz h f g = back_alike codes curve (unsigned_abs (solved d r xyz))
-    (unsigned_abs (solved e s xyz)) h (solved_alike d e r s xyz f g) (linear_small _)
+    (unsigned_abs (solved e s xyz)) h (solved_alike d e r s xyz f g) (linear_small (div_round_signed (dot s xyz *ℤ pos 65535) e))
 
 inverse_is : (columns : List ℤ) (curves : List CurveValue) (i : InverseValue) (xyz : PcsValue) →
     IsInverseOf columns curves i → inverted i xyz ≡ matrix_target columns curves xyz

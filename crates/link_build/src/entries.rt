@@ -1,9 +1,10 @@
 //! A lut as a source: the values of its input tables for each code.
-ghost use Rattle.std.specs.Prelude.{◌≡◌, ◌≤◌, ◌<◌, ◌+◌, ◌*◌, IfOk, length, take, slice_index};
+ghost use Rattle.std.specs.Prelude.{◌≡◌, ◌≢◌, ◌≤◌, ◌<◌, ◌+◌, ◌*◌, IfOk, length, take, slice_index};
 ghost use Rattle.icc_tables.specs.Lattice.{lut_value, top_of};
 ghost use Rattle.icc_model.specs.Direct.{entered};
 ghost use Rattle.link_build.specs.Code.Entries.{IsTableOf, IsEntriesOf};
 
+use crate::mixture::see_bytes;
 use icc_model::{Lut, entered};
 use icc_tables::{before, of_point};
 use press_fault::{Code, Mem};
@@ -66,10 +67,20 @@ impl Entries {
         if code.n == 3 {
             of_point(lut, &[first, second, third])
         } else {
+            see_four(code);
+            see_bytes(code);
             of_point(lut, &[first, second, third, entry_at(&self.fourth, d)])
         }
     }
 }
+
+/// A code of more than three channels has four.
+fn see_four(code: Code)
+    requires some { 3 ≤ code.n }
+    requires more { code.n ≢ 3 }
+    ensures four { code.n ≡ 4 }
+    ensures places { length code.c ≡ 4 }
+{}
 
 /// The values of one channel's input table.
 #[tactic(auto, using(crate::proofs::Tables::table_more))]

@@ -3,6 +3,7 @@ ghost use Rattle.std.specs.Prelude.{◌≡◌, ◌↔◌, IsTrue, IfOk};
 ghost use Rattle.md5.specs.Md5.{md5};
 ghost use Rattle.icc_model.specs.Direct.{can_receive};
 ghost use Rattle.link_build.specs.Key.{LinkKeyValue, mark_of};
+ghost use Rattle.link_build.specs.KeyLaws.{AreOne};
 
 use icc_model::{Intent, Profile};
 use press_fault::Mem;
@@ -83,15 +84,45 @@ impl LinkKey {
         })
     }
 
-    /// Whether the intents and the bytes of both profiles are the same. Bytes are compared only
-    /// where their digests agree.
+    /// Whether the intents and the bytes of both profiles are the same.
     pub(crate) fn is_same(&self, other: &LinkKey) -> bool
         ensures { IsTrue result ↔ (mark_of self.now ≡ mark_of other.now) }
     {
-        self.intent == other.intent
-            && self.source_digest == other.source_digest
-            && self.target_digest == other.target_digest
-            && self.source.bytes() == other.source.bytes()
-            && self.target.bytes() == other.target.bytes()
+        self.is_one(other)
     }
+
+    /// The same of their parts.
+    fn is_one(&self, other: &LinkKey) -> bool
+        ensures { IsTrue result ↔ AreOne self.now other.now }
+    {
+        if self.intent != other.intent {
+            return false;
+        }
+        if !have_same_bytes(
+            &self.source,
+            self.source_digest,
+            &other.source,
+            other.source_digest,
+        ) {
+            return false;
+        }
+        have_same_bytes(
+            &self.target,
+            self.target_digest,
+            &other.target,
+            other.target_digest,
+        )
+    }
+}
+
+/// Whether two profiles have the same bytes. Bytes are compared only where their digests agree.
+fn have_same_bytes(a: &Profile, a_digest: [u8; 16], b: &Profile, b_digest: [u8; 16]) -> bool
+    requires a { a_digest ≡ md5 a.now.bytes }
+    requires b { b_digest ≡ md5 b.now.bytes }
+    ensures { IsTrue result ↔ (a.now.bytes ≡ b.now.bytes) }
+{
+    if a_digest != b_digest {
+        return false;
+    }
+    a.bytes() == b.bytes()
 }

@@ -58,11 +58,12 @@ pub record IsMixtureOf (columns : List ℤ) (curves : List CurveValue) (shares :
   pub green : AreShares (column columns 1) (curve_of curves 1) 256 shares.green
   pub blue : AreShares (column columns 2) (curve_of curves 2) 256 shares.blue
 
--- the first three values of a code are bytes
+-- the values of a code are bytes
 pub record AreBytes (code : List ℕ) : Type 0 where
   pub first : slice_index code 0 < 256
   pub second : slice_index code 1 < 256
   pub third : slice_index code 2 < 256
+  pub fourth : slice_index code 3 < 256
 
 -- a curve read backwards at each value of 16 bits
 pub record IsBackOf (curve : CurveValue) (codes : List ℕ) : Type 0 where

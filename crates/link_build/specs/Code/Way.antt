@@ -77,6 +77,6 @@ pub record AreColoursOf (key : LinkKeyValue) (count : ℕ) (colours : List (List
 
 -- what a link keeps is of its key
 abbrev pub IsWayOf : LinkKeyValue → Way → Type 0
-IsWayOf key (Single colours) = (key.source.channels ≡ 1) × AreColoursOf key 256 colours
+IsWayOf key (Single colours) = (key.source.channels ≡ 1) × AreColoursOf key 256 colours.items
 IsWayOf key (Several source target) =
     IsSourceOf key.source key.intent source × IsTargetOf key.target key.intent target
