@@ -1,5 +1,6 @@
 -- The input tables of a lut, taken from tables of all codes.
-use Rattle.std.proofs.Common.{◌≡◌, ◌∙◌, ℕ, ◌<◌, ◌≤◌, List, [], ◌∷◌, slice_index, take, length, ap, subst, sym, refl, arith}
+use Rattle.std.proofs.Common.{◌≡◌, ◌∙◌, ℕ, ◌<◌, ◌≤◌, List, [], ◌∷◌, slice_index, take, length, ap, subst, sym, refl}
+use Rattle.std.proofs.Common.{arith}
 use Rattle.std.specs.Prelude.{slice_index_or}
 use Rattle.press_fault.specs.Plane.{CodeValue, IsCode}
 use Rattle.icc_tables.specs.Lattice.{LutValue, IsPoint, through_tables, top_of}
@@ -54,7 +55,8 @@ pub four_point : (lut : LutValue) (entries : EntriesValue) (n : ℕ) (code : Lis
     z ≡ slice_index entries.third (slice_index code 2) → w ≡ slice_index entries.fourth (slice_index code 3) →
     (x ∷ y ∷ z ∷ w ∷ []) ≡ through_tables lut.wide lut.before lut.before_count 0 (entered lut.wide (take n code))
 four_point lut entries n (a ∷ b ∷ c ∷ d ∷ []) x y z w four all inputs h bytes e f g i =
-    rw four (four_entries lut entries a b c d x y z w inputs h bytes.first bytes.second bytes.third bytes.fourth e f g i)
+    rw four (four_entries lut entries a b c d x y z w inputs h bytes.first bytes.second bytes.third bytes.fourth
+    e f g i)
 four_point lut entries n [] x y z w four all inputs h bytes e f g i = absurd (omega (arith, all))
 four_point lut entries n (a ∷ []) x y z w four all inputs h bytes e f g i = absurd (omega (arith, all))
 four_point lut entries n (a ∷ b ∷ []) x y z w four all inputs h bytes e f g i = absurd (omega (arith, all))
@@ -62,13 +64,13 @@ four_point lut entries n (a ∷ b ∷ c ∷ []) x y z w four all inputs h bytes 
 four_point lut entries n (a ∷ b ∷ c ∷ d ∷ o ∷ more) x y z w four all inputs h bytes e f g i =
     absurd (omega (arith, all))
 
-made : ℕ → List ℕ → CodeValue
+-- a code of these parts
+abbrev made : ℕ → List ℕ → CodeValue
 made n c = record { n = n; c = c }
 
 -- a code of one channel is that of its first value
 pub one_is : (code : CodeValue) (n : ℕ) (c : List ℕ) → made n c ≡ code → IsCode n c → code.n ≡ 1 → length c ≡ 4 →
     code ≡ code_of_one (slice_index_or c 0 0)
-unfolding made
 one_is code n (v ∷ x ∷ y ∷ z ∷ []) view is one all =
     let count : n ≡ 1 = ap (λ (p : CodeValue). p.n) view ∙ one in
     sym view ∙ (ap (λ (m : ℕ). made m (v ∷ x ∷ y ∷ z ∷ [])) count

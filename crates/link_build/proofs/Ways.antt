@@ -70,7 +70,8 @@ three_alike a b c x y z d e f = ap (λ (n : ℕ). n ∷ b ∷ c ∷ []) d
 channel_is : (codes : List ℕ) (curve : CurveValue) (d e : ℤ) (r s xyz : PcsValue) → IsBackOf curve codes → d ≡ e →
     r ≡ s → slice_index codes (unsigned_abs (solved d r xyz)) ≡ returned curve (solved e s xyz)
 channel_is codes curve d e r s xyz h f g = back_alike codes curve (unsigned_abs (solved d r xyz))
-    (unsigned_abs (solved e s xyz)) h (solved_alike d e r s xyz f g) (linear_small (div_round_signed (dot s xyz *ℤ pos 65535) e))
+    (unsigned_abs (solved e s xyz)) h (solved_alike d e r s xyz f g)
+    (linear_small (div_round_signed (dot s xyz *ℤ pos 65535) e))
 
 inverse_is : (columns : List ℤ) (curves : List CurveValue) (i : InverseValue) (xyz : PcsValue) →
     IsInverseOf columns curves i → inverted i xyz ≡ matrix_target columns curves xyz

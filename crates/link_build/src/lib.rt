@@ -8,7 +8,7 @@
 #![tactic(auto)]
 
 mod back;
-// mod converter;
+mod converter;
 mod entries;
 mod inverse;
 mod key;
@@ -19,7 +19,7 @@ mod narrow;
 mod source;
 mod target;
 
-// pub use converter::{Converter, LinkMaker};
+pub use converter::{Converter, LinkMaker};
 pub use key::LinkKey;
 pub use laws::keys_of_one_mark_have_one_colour;
 pub use link::{Link, build};
