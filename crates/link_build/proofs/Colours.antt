@@ -1,6 +1,5 @@
 -- The colours of all codes of one channel, made one by one.
-use Rattle.std.proofs.Common.{◌≡◌, ◌∙◌, ℕ, ◌+◌, ◌<◌, List, [], ◌∷◌, ◌++◌, length, refl}
-use Rattle.std.specs.Prelude.{slice_index_or}
+use Rattle.std.proofs.Common.{◌≡◌, ℕ, ◌+◌, List, [], ◌∷◌, ◌++◌, refl}
 use Rattle.icc_model.specs.Direct.{direct_wide}
 use Rattle.link_build.specs.Key.{LinkKeyValue}
 use Rattle.link_build.specs.Code.Way.{AreColoursOf, code_of_one}

@@ -3,7 +3,7 @@ use Rattle.std.proofs.Common.{◌≡◌, ◌∙◌, ℕ, ◌<◌, ◌≤◌, Lis
 use Rattle.std.proofs.Common.{arith}
 use Rattle.std.specs.Prelude.{slice_index_or}
 use Rattle.press_fault.specs.Plane.{CodeValue, IsCode}
-use Rattle.icc_tables.specs.Lattice.{LutValue, IsPoint, through_tables, top_of}
+use Rattle.icc_tables.specs.Lattice.{LutValue, through_tables, top_of}
 use Rattle.icc_model.specs.Direct.{entered}
 use Rattle.link_build.specs.Code.Entries.{EntriesValue, IsTableOf, IsEntriesOf, value_of_code}
 use Rattle.link_build.specs.Code.Prepared.{AreBytes}

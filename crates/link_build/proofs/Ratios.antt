@@ -1,8 +1,8 @@
 -- A quotient that is taken into a range, from two numbers that fit 64 bits.
-use Rattle.std.proofs.Common.{◌≡◌, ◌∙◌, ℕ, zero, suc, ◌+◌, ◌*◌, ◌/◌, ◌<◌, ◌≤◌, arith, sym, ap, refl, rules}
-use Rattle.std.specs.Prelude.{ℤ, pos, negsuc, neg_ℤ, ◌+ℤ◌, ◌*ℤ◌, ◌≤ℤ◌, ◌<ℤ◌, unsigned_abs}
+use Rattle.std.proofs.Common.{◌≡◌, ℕ, zero, suc, ◌*◌, ◌<◌, ◌≤◌, arith, ap, refl}
+use Rattle.std.specs.Prelude.{ℤ, pos, negsuc, neg_ℤ, ◌*ℤ◌, ◌≤ℤ◌, ◌<ℤ◌, unsigned_abs}
 use Rattle.std.proofs.lemmas.Int.{ints}
-use Rattle.press_nums.specs.Rounding.{div_round, div_round_signed, IsNearest}
+use Rattle.press_nums.specs.Rounding.{div_round}
 use Rattle.press_nums.proofs.Nearest.{nearest}
 use Rattle.icc_tables.specs.Rounded.{clamped, rounded}
 use Rattle.icc_tables.specs.Pcs.{PcsValue}

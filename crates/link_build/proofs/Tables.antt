@@ -1,17 +1,17 @@
 -- Tables that are made entry by entry, and curves read backwards at each value.
-use Rattle.std.proofs.Common.{◌≡◌, ◌∙◌, ℕ, ◌+◌, ◌^◌, ◌<◌, ◌≤◌, List, [], ◌∷◌, ◌++◌, length, slice_index, arith}
-use Rattle.std.proofs.Common.{sym, ap, subst, true, false, nat_le, refl, length-append}
+use Rattle.std.proofs.Common.{◌≡◌, ◌∙◌, ℕ, ◌+◌, ◌^◌, ◌<◌, ◌≤◌, List, [], ◌∷◌, ◌++◌, length, arith}
+use Rattle.std.proofs.Common.{sym, ap, subst, false, nat_le, refl, length-append}
 use Rattle.std.specs.Prelude.{slice_index_or, pos}
 use Rattle.std.proofs.lemmas.Bool.{leb-true, le-leb}
 use Rattle.std.proofs.lemmas.List.{get_or_append_left, get_or_push}
 use Rattle.proof_words.proofs.Cases.{by_bool, by_le}
-use Rattle.icc_tables.specs.Curves.{CurveValue, curve_at, curve_back, least}
+use Rattle.icc_tables.specs.Curves.{CurveValue, curve_at, curve_back}
 use Rattle.icc_tables.proofs.Tables.{least_is}
 use Rattle.icc_tables.specs.Lattice.{LutValue, top_of}
 use Rattle.icc_tables.specs.Pcs.{PcsValue}
 use Rattle.icc_model.specs.Direct.{AreWithin, linear_of}
 use Rattle.link_build.specs.Code.Entries.{IsTableOf, value_of_code}
-use Rattle.link_build.specs.Code.Prepared.{AreShares, AreSmallShares, share_of, share_at, IsBackUpTo, IsBackOf}
+use Rattle.link_build.specs.Code.Prepared.{AreShares, share_of, IsBackUpTo, IsBackOf}
 
 -- what holds of each entry of a list holds once one more stands behind them
 pub each_more : {X : Type 0} (P : ℕ → X → Type 0) (d : X) (xs ys : List X) (x : X) (n : ℕ) → length xs ≡ n →

@@ -1,6 +1,5 @@
 -- What a link prepares of a profile gives what the profile gives.
-use Rattle.std.proofs.Common.{◌≡◌, ◌∙◌, ℕ, ◌<◌, ◌^◌, List, [], ◌∷◌, slice_index, Option, Some, None, arith, sym, ap}
-use Rattle.std.proofs.Common.{refl}
+use Rattle.std.proofs.Common.{◌≡◌, ◌∙◌, ℕ, ◌<◌, List, [], ◌∷◌, slice_index, Option, Some, None, arith, sym, ap}
 use Rattle.std.specs.Prelude.{ℤ, pos, ◌*ℤ◌, unsigned_abs, Bool}
 use Rattle.std.proofs.lemmas.Int.{ints}
 use Rattle.press_nums.specs.Rounding.{div_round_signed}
@@ -10,7 +9,7 @@ use Rattle.icc_tables.specs.Curves.{CurveValue, curve_back}
 use Rattle.icc_tables.specs.Pcs.{PcsValue}
 use Rattle.icc_model.specs.Profile.{ProfileValue, chosen}
 use Rattle.icc_model.specs.Direct.{source_of, source_by, target_of, target_by, matrix_source, matrix_target, solved}
-use Rattle.icc_model.specs.Direct.{column, curve_of, linear_of, returned, determinant, cross, dot}
+use Rattle.icc_model.specs.Direct.{column, curve_of, linear_of, returned, dot}
 use Rattle.icc_model.specs.declared.profile.Base.{Base}
 use Rattle.icc_model.specs.declared.profile.Base.TheVariants.{Matrix, Gray}
 use Rattle.icc_model.specs.declared.profile.Intent.{Intent}

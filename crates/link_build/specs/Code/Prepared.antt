@@ -1,5 +1,5 @@
 -- Words of the code alone: what a link works out before it meets a code.
-use Rattle.std.specs.Prelude.{◌≡◌, ℕ, ◌*◌, ◌^◌, ◌<◌, ◌≤◌, List, [], ◌∷◌, length, slice_index, slice_index_or}
+use Rattle.std.specs.Prelude.{◌≡◌, ℕ, ◌^◌, ◌<◌, ◌≤◌, List, [], ◌∷◌, length, slice_index, slice_index_or}
 use Rattle.std.specs.Prelude.{ℤ, pos, ◌+ℤ◌, ◌*ℤ◌, unsigned_abs}
 use Rattle.press_nums.specs.Rounding.{div_round}
 use Rattle.icc_tables.specs.Curves.{CurveValue, curve_at, curve_back}

@@ -1,4 +1,4 @@
-use Rattle.std.proofs.Common.{rules, arith}
+use Rattle.std.proofs.Common.{arith}
 use Rattle.link_build.proofs.Tables.{fill_more}
 use Rattle.link_build.proofs.back.fill.Goals as goal
 

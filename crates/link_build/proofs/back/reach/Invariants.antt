@@ -1,4 +1,4 @@
-use Rattle.std.proofs.Common.{◌-◌, ◌+◌, length}
+use Rattle.std.proofs.Common.{◌-◌, length}
 use Rattle.link_build.specs.Code.Prepared.{IsBackUpTo}
 use Rattle.link_build.proofs.back.reach.Given as goal
 
