@@ -89,11 +89,16 @@ fn add_corners(lut: &Lut, at: &[u16], weight: u64, place: usize, sums: &mut [u12
     add_corners(lut, rest, weight * distance, first + 1, sums);
 }
 
+fn table(entries: &[u16], count: usize, channel: usize, v: u16) -> u16 {
+    table_at(&entries[channel * count..(channel + 1) * count], v)
+}
+
 fn lut_source(lut: &Lut, code: [u8; 4]) -> [i64; 3] {
-    let table = |entries: &[u16], count: usize, channel: usize, v: u16| {
-        table_at(&entries[channel * count..(channel + 1) * count], v)
-    };
-    let at = [0, 1, 2, 3].map(|k| table(&lut.before, lut.before_count, k, 257 * u16::from(code[k])));
+    lab_of(lut, [0, 1, 2, 3].map(|k| table(&lut.before, lut.before_count, k, 257 * u16::from(code[k]))))
+}
+
+/// Lab of a point of the lattice.
+fn lab_of(lut: &Lut, at: [u16; 4]) -> [i64; 3] {
     let mut sums = [0; 3];
     add_corners(lut, &at, 1, 0, &mut sums);
     const WHOLE: u64 = 65535 * 65535 * 65535 * 65535;
@@ -153,6 +158,88 @@ fn direct(source: &Source, target: &Matrix, code: [u8; 4]) -> [u8; 3] {
     matrix_target(target, xyz).map(|v| ((u32::from(v) * 510 + 65535) / 131070) as u8)
 }
 
+/// What is worked out before a code is met: for a matrix source the shares of its columns in XYZ, for a lut the values
+/// of its input tables; of the target its adjugate, its determinant, and its curves read backwards.
+enum Prepared {
+    Shares([Vec<[i64; 3]>; 3]),
+    Entries([Vec<u16>; 4]),
+}
+
+struct Link<'a> {
+    source: &'a Source,
+    prepared: Prepared,
+    rows: [[i64; 3]; 3],
+    determinant: i64,
+    codes: [Vec<u16>; 3],
+}
+
+/// A curve read backwards at each value, by one pass over its codes.
+fn back_of(curve: &Curve) -> Vec<u16> {
+    let mut codes = Vec::with_capacity(65536);
+    for code in 0..65535u16 {
+        let value = usize::from(table_at(&curve.entries, code));
+        while codes.len() <= value {
+            codes.push(code);
+        }
+    }
+    codes.resize(65536, 65535);
+    codes
+}
+
+fn build<'a>(source: &'a Source, target: &Matrix) -> Link<'a> {
+    let all = |f: &dyn Fn(u16) -> u16| (0..256u16).map(|c| f(257 * c)).collect::<Vec<u16>>();
+    let prepared = match source {
+        Source::Matrix(matrix) => Prepared::Shares([0, 1, 2].map(|k| {
+            let linear = all(&|v| table_at(&matrix.curves[k].entries, v));
+            linear.iter().map(|l| [0, 1, 2].map(|row| i64::from(matrix.columns[3 * k + row]) * i64::from(*l))).collect()
+        })),
+        Source::Lab(lut) => Prepared::Entries([0, 1, 2, 3].map(|k| {
+            let count = lut.before_count;
+            all(&|v| table_at(&lut.before[k * count..(k + 1) * count], v))
+        })),
+    };
+    let c = &target.columns;
+    let (red, green, blue) = ([c[0], c[1], c[2]], [c[3], c[4], c[5]], [c[6], c[7], c[8]]);
+    let rows = [cross(green, blue), cross(blue, red), cross(red, green)];
+    let determinant = dot(rows[0], red.map(i64::from));
+    Link {
+        source,
+        prepared,
+        rows: rows.map(|row| row.map(|n| n as i64)),
+        determinant: determinant as i64,
+        codes: [0, 1, 2].map(|k| back_of(&target.curves[k])),
+    }
+}
+
+/// A colour by a link.
+#[inline(never)]
+fn convert(link: &Link, code: [u8; 4]) -> [u8; 3] {
+    let xyz = match (&link.prepared, link.source) {
+        (Prepared::Shares(shares), _) => {
+            let [r, g, b] = [0, 1, 2].map(|k| shares[k][usize::from(code[k])]);
+            [0, 1, 2].map(|row| div_round(r[row] + g[row] + b[row], 65535).clamp(0, 131070))
+        }
+        (Prepared::Entries(entries), Source::Lab(lut)) => {
+            lab_to_xyz(lab_of(lut, [0, 1, 2, 3].map(|k| entries[k][usize::from(code[k])])))
+        }
+        _ => unreachable!(),
+    };
+    [0, 1, 2].map(|k| {
+        let (row, d) = (link.rows[k], link.determinant);
+        let sum = row[0] * xyz[0] + row[1] * xyz[1] + row[2] * xyz[2];
+        let (n, d) = if d < 0 { (-sum, -d) } else { (sum, d) };
+        let linear = if n <= 0 {
+            0
+        } else if n >= d {
+            65535
+        } else {
+            (n as u64 * 131070 + d as u64) / (2 * d as u64)
+        };
+        let v = link.codes[k][linear as usize];
+        ((u32::from(v) * 510 + 65535) / 131070) as u8
+    })
+}
+
 struct Words {
     state: u64,
 }
@@ -185,16 +272,25 @@ fn matrix_of(columns: [i32; 9]) -> Matrix {
     Matrix { columns, curves: [squares(), squares(), squares()] }
 }
 
-fn case(name: &str, source: &Source, target: &Matrix, codes: &[[u8; 4]]) {
+fn case(name: &str, colour: impl Fn([u8; 4]) -> [u8; 3], codes: &[[u8; 4]]) {
     let start = Instant::now();
     let mut sum = 0u64;
     for code in codes {
-        let [red, green, blue] = direct(source, target, *code).map(u64::from);
+        let [red, green, blue] = colour(*code).map(u64::from);
         sum = sum.wrapping_mul(31).wrapping_add(red).wrapping_add(green * 256).wrapping_add(blue * 65536);
     }
     let time = start.elapsed();
     println!("colour, {name}: {} colours, sum {sum}", codes.len());
     eprintln!("colour, {name}: {} ns", time.as_nanos());
+}
+
+/// The colours straight through two profiles, and by their link.
+fn both(name: &str, source: &Source, target: &Matrix, codes: &[[u8; 4]]) {
+    case(name, |code| direct(source, target, code), codes);
+    let start = Instant::now();
+    let link = build(source, target);
+    eprintln!("colour, {name} by a link, build: {} ns", start.elapsed().as_nanos());
+    case(&format!("{name} by a link"), |code| convert(&link, code), codes);
 }
 
 fn main() {
@@ -211,6 +307,6 @@ fn main() {
     let target = matrix_of([39960, 20389, 1276, 13453, 41004, 3989, 9777, 4143, 48796]);
     let codes: Vec<[u8; 4]> =
         (0..200_000).map(|_| [words.byte(), words.byte(), words.byte(), words.byte()]).collect();
-    case("matrix to matrix", &matrix, &target, &codes);
-    case("lattice to matrix", &lattice, &target, &codes);
+    both("matrix to matrix", &matrix, &target, &codes);
+    both("lattice to matrix", &lattice, &target, &codes);
 }

@@ -1,16 +1,17 @@
-//! How fast colours go through two profiles, 200,000 of each kind: how many, and a sum of them; the nanoseconds
-//! that they took.
+//! How fast colours go through two profiles, 200,000 of each kind, straight through both and by a link: how many,
+//! and a sum of them; the nanoseconds that they took.
 
 ghost use Rattle.std.specs.Prelude.{◌≡◌, ◌⊎◌, IsTrue};
 ghost use Rattle.icc_model.specs.Direct.{can_receive};
 
-use crate::no_memory;
 use crate::profiles::{Words, of_lattice, of_matrix};
+use crate::{link, no_memory};
 use icc_model::{Intent, Profile, direct};
 use press_fault::{Code, Mem};
 use std::alloc::Global;
 use std::io;
 use std::io::ErrorKind;
+use std::sync::Arc;
 use std::time::Instant;
 
 /// The red, the green and the blue column of sRGB, adapted to D50, in 1/65536.
@@ -20,7 +21,7 @@ const SRGB: [i32; 9] = [28579, 14582, 913, 25236, 46981, 6364, 9377, 3973, 46804
 const ADOBE: [i32; 9] = [39960, 20389, 1276, 13453, 41004, 3989, 9777, 4143, 48796];
 
 /// Four bytes; a code of three channels leaves the last.
-type Bytes = [u8; 4];
+pub(crate) type Bytes = [u8; 4];
 
 fn codes_of(alloc: Global, words: &mut Words) -> Mem<Vec<Bytes>> {
     let mut codes = Vec::new(alloc);
@@ -30,7 +31,7 @@ fn codes_of(alloc: Global, words: &mut Words) -> Mem<Vec<Bytes>> {
     Ok(codes)
 }
 
-fn code_of(channels: u8, bytes: Bytes) -> Code
+pub(crate) fn code_of(channels: u8, bytes: Bytes) -> Code
     requires { (channels ≡ 1) ⊎ (channels ≡ 3) ⊎ (channels ≡ 4) }
     ensures { result.n ≡ channels }
 {
@@ -43,7 +44,7 @@ fn code_of(channels: u8, bytes: Bytes) -> Code
 }
 
 /// A sum of colours that tells their order.
-fn added(sum: u64, colour: [u8; 3]) -> u64 {
+pub(crate) fn added(sum: u64, colour: [u8; 3]) -> u64 {
     let [red, green, blue] = colour;
     sum.wrapping_mul(31)
         .wrapping_add(u64::from(red))
@@ -86,25 +87,37 @@ fn case(
 #[derive(Drop)]
 struct Setting {
     codes: Vec<Bytes>,
-    matrix: Profile,
-    lattice: Profile,
-    target: Profile,
+    matrix: Arc<Profile>,
+    lattice: Arc<Profile>,
+    target: Arc<Profile>,
 }
 
 fn prepared(alloc: Global) -> Mem<Setting> {
     let mut words = Words::new();
     Ok(Setting {
-        matrix: of_matrix(alloc, SRGB)?,
-        lattice: of_lattice(alloc, &mut words)?,
-        target: of_matrix(alloc, ADOBE)?,
+        matrix: Arc::new(alloc, of_matrix(alloc, SRGB)?)?,
+        lattice: Arc::new(alloc, of_lattice(alloc, &mut words)?)?,
+        target: Arc::new(alloc, of_matrix(alloc, ADOBE)?)?,
         codes: codes_of(alloc, &mut words)?,
     })
+}
+
+/// Colours straight through two profiles, and by their link.
+fn both(
+    rt: &HostRuntime,
+    name: &str,
+    source: &Arc<Profile>,
+    target: &Arc<Profile>,
+    codes: &[Bytes],
+) -> io::Result<()> {
+    case(rt, name, source, target, codes)?;
+    link::case(rt, name, source, target, codes)
 }
 
 pub(crate) fn run(rt: &HostRuntime) -> io::Result<()> {
     let Ok(s) = prepared(rt.alloc()) else {
         return Err(no_memory());
     };
-    case(rt, "matrix to matrix", &s.matrix, &s.target, &s.codes)?;
-    case(rt, "lattice to matrix", &s.lattice, &s.target, &s.codes)
+    both(rt, "matrix to matrix", &s.matrix, &s.target, &s.codes)?;
+    both(rt, "lattice to matrix", &s.lattice, &s.target, &s.codes)
 }

@@ -9,6 +9,7 @@ mod colour;
 mod fill;
 mod flow;
 mod image;
+mod link;
 mod path;
 mod profile;
 mod profiles;

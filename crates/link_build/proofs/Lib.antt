@@ -1,0 +1,5 @@
+pub mod Tables
+pub mod Colours
+pub mod Ways
+pub mod Ratios
+pub mod Points
