@@ -13,6 +13,7 @@ mod target;
 
 pub use colour::{direct, direct_wide, wide_values_round_back};
 pub use icc_tables::{
-    Curve, Lut, Pcs, Values, curve_at, curve_back, lab_to_xyz, lattice_at, xyz_to_lab,
+    Curve, Lut, NodeSize, Nodes, Pcs, SharedBytes, Values, curve_at, curve_back, lab_to_xyz,
+    lattice_at, xyz_to_lab,
 };
 pub use profile::{Base, Intent, Profile, Transform};
