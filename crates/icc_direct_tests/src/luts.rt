@@ -6,8 +6,8 @@ use std::test::Fail;
 #[test]
 fn a_lut_of_16_bits_to_xyz(rt: HostRuntime) -> Result<(), Fail> {
     let lut = lut(rt.alloc(), true, 3, 3, 81, 5, 40503)?;
-    let source = reader(rt.alloc(), false, lut);
-    let target = of_xyz(rt.alloc());
+    let source = reader(rt.alloc(), false, lut)?;
+    let target = of_xyz(rt.alloc())?;
     // code, colour
     let cases = [
         ([0, 0, 0, 0], [31062, 22728, 48831]),
@@ -31,8 +31,8 @@ fn a_lut_of_16_bits_to_xyz(rt: HostRuntime) -> Result<(), Fail> {
 #[test]
 fn a_lut_of_16_bits_to_lab(rt: HostRuntime) -> Result<(), Fail> {
     let lut = lut(rt.alloc(), true, 3, 3, 81, 5, 40503)?;
-    let source = reader(rt.alloc(), true, lut);
-    let target = of_xyz(rt.alloc());
+    let source = reader(rt.alloc(), true, lut)?;
+    let target = of_xyz(rt.alloc())?;
     // code, colour
     let cases = [
         ([0, 0, 0, 0], [3274, 5397, 348]),
@@ -56,8 +56,8 @@ fn a_lut_of_16_bits_to_lab(rt: HostRuntime) -> Result<(), Fail> {
 #[test]
 fn a_lut_of_8_bits_to_lab(rt: HostRuntime) -> Result<(), Fail> {
     let lut = lut(rt.alloc(), false, 3, 3, 81, 256, 157)?;
-    let source = reader(rt.alloc(), true, lut);
-    let target = of_xyz(rt.alloc());
+    let source = reader(rt.alloc(), true, lut)?;
+    let target = of_xyz(rt.alloc())?;
     // code, colour
     let cases = [
         ([0, 0, 0, 0], [0, 0, 0]),
@@ -81,8 +81,8 @@ fn a_lut_of_8_bits_to_lab(rt: HostRuntime) -> Result<(), Fail> {
 #[test]
 fn a_lut_of_one_channel(rt: HostRuntime) -> Result<(), Fail> {
     let lut = lut(rt.alloc(), true, 1, 6, 18, 5, 40503)?;
-    let source = reader(rt.alloc(), true, lut);
-    let target = of_xyz(rt.alloc());
+    let source = reader(rt.alloc(), true, lut)?;
+    let target = of_xyz(rt.alloc())?;
     // code, colour
     let cases = [
         ([0, 0, 0, 0], [245, 0, 0]),
@@ -106,8 +106,8 @@ fn a_lut_of_one_channel(rt: HostRuntime) -> Result<(), Fail> {
 #[test]
 fn a_lut_of_four_channels_and_16_bits(rt: HostRuntime) -> Result<(), Fail> {
     let lut = lut(rt.alloc(), true, 4, 3, 243, 5, 40503)?;
-    let source = reader(rt.alloc(), true, lut);
-    let target = of_xyz(rt.alloc());
+    let source = reader(rt.alloc(), true, lut)?;
+    let target = of_xyz(rt.alloc())?;
     // code, colour
     let cases = [
         ([0, 0, 0, 0], [1793, 1901, 1017]),
@@ -133,8 +133,8 @@ fn a_lut_of_four_channels_and_16_bits(rt: HostRuntime) -> Result<(), Fail> {
 #[test]
 fn a_lut_of_four_channels_and_8_bits(rt: HostRuntime) -> Result<(), Fail> {
     let lut = lut(rt.alloc(), false, 4, 3, 243, 256, 157)?;
-    let source = reader(rt.alloc(), true, lut);
-    let target = of_xyz(rt.alloc());
+    let source = reader(rt.alloc(), true, lut)?;
+    let target = of_xyz(rt.alloc())?;
     // code, colour
     let cases = [
         ([0, 0, 0, 0], [0, 0, 0]),
@@ -159,10 +159,10 @@ fn a_lut_of_four_channels_and_8_bits(rt: HostRuntime) -> Result<(), Fail> {
 
 #[test]
 fn xyz_to_a_lut_of_16_bits(rt: HostRuntime) -> Result<(), Fail> {
-    let source = of_columns(rt.alloc(), SRGB);
+    let source = of_columns(rt.alloc(), SRGB)?;
     let forward = lut(rt.alloc(), true, 3, 3, 81, 5, 40503)?;
     let backward = lut(rt.alloc(), true, 3, 3, 81, 5, 40503)?;
-    let target = writer(rt.alloc(), false, forward, backward);
+    let target = writer(rt.alloc(), false, forward, backward)?;
     // code, colour
     let cases = [
         ([0, 0, 0, 0], [31062, 22728, 48831]),
@@ -185,10 +185,10 @@ fn xyz_to_a_lut_of_16_bits(rt: HostRuntime) -> Result<(), Fail> {
 
 #[test]
 fn lab_to_a_lut_of_16_bits(rt: HostRuntime) -> Result<(), Fail> {
-    let source = of_columns(rt.alloc(), SRGB);
+    let source = of_columns(rt.alloc(), SRGB)?;
     let forward = lut(rt.alloc(), true, 3, 3, 81, 5, 40503)?;
     let backward = lut(rt.alloc(), true, 3, 3, 81, 5, 40503)?;
-    let target = writer(rt.alloc(), true, forward, backward);
+    let target = writer(rt.alloc(), true, forward, backward)?;
     // code, colour
     let cases = [
         ([0, 0, 0, 0], [21098, 40079, 29149]),
@@ -211,10 +211,10 @@ fn lab_to_a_lut_of_16_bits(rt: HostRuntime) -> Result<(), Fail> {
 
 #[test]
 fn lab_to_a_lut_of_8_bits(rt: HostRuntime) -> Result<(), Fail> {
-    let source = of_columns(rt.alloc(), SRGB);
+    let source = of_columns(rt.alloc(), SRGB)?;
     let forward = lut(rt.alloc(), false, 3, 3, 81, 256, 157)?;
     let backward = lut(rt.alloc(), false, 3, 3, 81, 256, 157)?;
-    let target = writer(rt.alloc(), true, forward, backward);
+    let target = writer(rt.alloc(), true, forward, backward)?;
     // code, colour
     let cases = [
         ([0, 0, 0, 0], [27756, 6168, 24929]),
@@ -238,10 +238,10 @@ fn lab_to_a_lut_of_8_bits(rt: HostRuntime) -> Result<(), Fail> {
 #[test]
 fn a_lut_to_a_lut_in_8_bits(rt: HostRuntime) -> Result<(), Fail> {
     let from = lut(rt.alloc(), false, 4, 3, 243, 256, 157)?;
-    let source = reader(rt.alloc(), true, from);
+    let source = reader(rt.alloc(), true, from)?;
     let forward = lut(rt.alloc(), false, 3, 3, 81, 256, 91)?;
     let backward = lut(rt.alloc(), false, 3, 3, 81, 256, 91)?;
-    let target = writer(rt.alloc(), true, forward, backward);
+    let target = writer(rt.alloc(), true, forward, backward)?;
     // code, colour
     let cases = [
         ([0, 0, 0, 0], [128, 217, 249]),
@@ -268,8 +268,8 @@ fn a_lut_to_a_lut_in_8_bits(rt: HostRuntime) -> Result<(), Fail> {
 fn a_missing_intent_is_served_by_the_perceptual(rt: HostRuntime) -> Result<(), Fail> {
     let perceptual = lut(rt.alloc(), true, 3, 3, 81, 5, 40503)?;
     let relative = lut(rt.alloc(), true, 3, 2, 24, 4, 30011)?;
-    let source = reader_of_two(rt.alloc(), perceptual, relative);
-    let target = of_xyz(rt.alloc());
+    let source = reader_of_two(rt.alloc(), perceptual, relative)?;
+    let target = of_xyz(rt.alloc())?;
     // intent, code, colour
     let cases = [
         (Intent::Perceptual, [1, 128, 254, 0], [2466, 1877, 3877]),

@@ -22,8 +22,8 @@ fn up_and_down(alloc: Global) -> Mem<Curve> {
 #[test]
 fn a_matrix_with_three_kinds_of_curves(rt: HostRuntime) -> Result<(), Fail> {
     let curves = [Curve::identity(), bent(rt.alloc())?, falling(rt.alloc())?];
-    let source = of_matrix(rt.alloc(), SRGB, curves);
-    let target = of_xyz(rt.alloc());
+    let source = of_matrix(rt.alloc(), SRGB, curves)?;
+    let target = of_xyz(rt.alloc())?;
     // code, colour
     let cases = [
         ([0, 0, 0, 0], [4689, 1987, 23402]),
@@ -46,13 +46,13 @@ fn a_matrix_with_three_kinds_of_curves(rt: HostRuntime) -> Result<(), Fail> {
 
 #[test]
 fn a_matrix_to_a_matrix(rt: HostRuntime) -> Result<(), Fail> {
-    let source = of_columns(rt.alloc(), SRGB);
+    let source = of_columns(rt.alloc(), SRGB)?;
     let curves = [
         bent(rt.alloc())?,
         Curve::identity(),
         up_and_down(rt.alloc())?,
     ];
-    let target = of_matrix(rt.alloc(), ADOBE, curves);
+    let target = of_matrix(rt.alloc(), ADOBE, curves)?;
     // code, colour
     let cases = [
         ([0, 0, 0, 0], [0, 0, 0]),
@@ -75,13 +75,13 @@ fn a_matrix_to_a_matrix(rt: HostRuntime) -> Result<(), Fail> {
 
 #[test]
 fn a_matrix_to_a_matrix_in_8_bits(rt: HostRuntime) -> Result<(), Fail> {
-    let source = of_columns(rt.alloc(), SRGB);
+    let source = of_columns(rt.alloc(), SRGB)?;
     let curves = [
         bent(rt.alloc())?,
         Curve::identity(),
         up_and_down(rt.alloc())?,
     ];
-    let target = of_matrix(rt.alloc(), ADOBE, curves);
+    let target = of_matrix(rt.alloc(), ADOBE, curves)?;
     // code, colour
     let cases = [
         ([0, 0, 0, 0], [0, 0, 0]),
@@ -104,10 +104,10 @@ fn a_matrix_to_a_matrix_in_8_bits(rt: HostRuntime) -> Result<(), Fail> {
 
 #[test]
 fn a_matrix_of_negative_determinant(rt: HostRuntime) -> Result<(), Fail> {
-    let source = of_columns(rt.alloc(), SRGB);
+    let source = of_columns(rt.alloc(), SRGB)?;
     // Green before red.
     let mirrored = [13453, 41004, 3989, 39960, 20389, 1276, 9777, 4143, 48796];
-    let target = of_columns(rt.alloc(), mirrored);
+    let target = of_columns(rt.alloc(), mirrored)?;
     // code, colour
     let cases = [
         ([0, 0, 0, 0], [0, 0, 0]),
@@ -130,13 +130,13 @@ fn a_matrix_of_negative_determinant(rt: HostRuntime) -> Result<(), Fail> {
 
 #[test]
 fn no_singular_matrix_and_no_gray_receives(rt: HostRuntime) -> Result<(), Fail> {
-    let source = of_columns(rt.alloc(), SRGB);
+    let source = of_columns(rt.alloc(), SRGB)?;
     // Red twice.
     let singular = [28579, 14582, 913, 28579, 14582, 913, 9377, 3973, 46804];
     let targets = [
-        of_columns(rt.alloc(), singular),
-        of_gray(rt.alloc(), false, Curve::identity()),
-        of_gray(rt.alloc(), true, bent(rt.alloc())?),
+        of_columns(rt.alloc(), singular)?,
+        of_gray(rt.alloc(), false, Curve::identity())?,
+        of_gray(rt.alloc(), true, bent(rt.alloc())?)?,
     ];
     for target in &targets {
         assert_eq!(rt; wide(&source, target, Intent::Relative, [1, 2, 3, 0]), None);
@@ -146,8 +146,8 @@ fn no_singular_matrix_and_no_gray_receives(rt: HostRuntime) -> Result<(), Fail> 
 
 #[test]
 fn a_gray_of_xyz(rt: HostRuntime) -> Result<(), Fail> {
-    let source = of_gray(rt.alloc(), false, bent(rt.alloc())?);
-    let target = of_xyz(rt.alloc());
+    let source = of_gray(rt.alloc(), false, bent(rt.alloc())?)?;
+    let target = of_xyz(rt.alloc())?;
     // code, colour
     let cases = [
         ([0, 0, 0, 0], [0, 0, 0]),
@@ -170,8 +170,8 @@ fn a_gray_of_xyz(rt: HostRuntime) -> Result<(), Fail> {
 
 #[test]
 fn a_gray_of_lab(rt: HostRuntime) -> Result<(), Fail> {
-    let source = of_gray(rt.alloc(), true, bent(rt.alloc())?);
-    let target = of_xyz(rt.alloc());
+    let source = of_gray(rt.alloc(), true, bent(rt.alloc())?)?;
+    let target = of_xyz(rt.alloc())?;
     // code, colour
     let cases = [
         ([0, 0, 0, 0], [0, 0, 0]),

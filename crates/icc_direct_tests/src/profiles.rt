@@ -2,7 +2,11 @@
 ghost use Rattle.std.specs.Prelude.{◌≡◌, ◌≤◌, ◌^◌, ◌*◌, ◌⊎◌, true, false, IfOk, length};
 ghost use Rattle.icc_tables.specs.Lattice.{AreAtMost, IsCount, top_of};
 
-use icc_model::{Base, Curve, Intent, Lut, Profile, Transform, Values, direct, direct_wide};
+use byteorder::{BigEndian, ByteOrder};
+use icc_model::{
+    Base, Curve, Intent, Lut, NodeSize, Nodes, Profile, SharedBytes, Transform, Values, direct,
+    direct_wide,
+};
 use press_fault::{Code, Mem};
 use std::alloc::Global;
 
@@ -40,6 +44,44 @@ pub fn products(alloc: Global, count: u16, factor: u16, most: u16) -> Mem<Values
     Ok(Values::from_vec(values))
 }
 
+/// Nodes of such values, of two bytes each.
+fn words(alloc: Global, values: &[u16]) -> Mem<Nodes>
+    ensures count { IfOk result (λ nodes. length nodes ≡ length values.now) }
+    ensures most { IfOk result (AreAtMost 65535) }
+{
+    let mut bytes = vec![in alloc; 0; 2 * values.len()]?;
+    BigEndian::write_u16_into(values, &mut bytes);
+    let bytes = SharedBytes::new(alloc, bytes)?;
+    Ok(Nodes::new(bytes, 0, values.len(), NodeSize::Word))
+}
+
+/// Nodes of such values, of one byte each.
+fn bytes(alloc: Global, count: u16, factor: u16) -> Mem<Nodes>
+    ensures count { IfOk result (λ nodes. length nodes ≡ count) }
+    ensures most { IfOk result (AreAtMost 255) }
+{
+    let mut bytes = Vec::new(alloc);
+    for k in 0..count {
+        bytes.push(product(k, factor, 255) as u8)?;
+    }
+    let bytes = SharedBytes::new(alloc, bytes)?;
+    Ok(Nodes::new(bytes, 0, usize::from(count), NodeSize::Byte))
+}
+
+/// The nodes of a lattice, the products of so many places and a factor, modulo one more than the
+/// greatest value.
+fn node_products(alloc: Global, wide: bool, count: u16, factor: u16) -> Mem<Nodes>
+    ensures count { IfOk result (λ nodes. length nodes ≡ count) }
+    ensures most { IfOk result (AreAtMost (top_of wide)) }
+{
+    if wide {
+        let values = products(alloc, count, factor, 65535)?;
+        words(alloc, values.items())
+    } else {
+        bytes(alloc, count, factor)
+    }
+}
+
 fn top_of(wide: bool) -> u16
     ensures { result ≡ top_of wide }
 {
@@ -75,45 +117,50 @@ pub fn lut(
         before_count: entries,
         after_count: entries,
         before: products(alloc, u16::from(inputs) * entries, factor, top)?,
-        nodes: products(alloc, nodes, factor, top)?,
+        nodes: node_products(alloc, wide, nodes, factor)?,
         after: products(alloc, 3 * entries, factor, top)?,
     })
 }
 
+/// No bytes: the profiles of the tests weren't read from any.
+fn nothing(alloc: Global) -> Mem<SharedBytes> {
+    Ok(SharedBytes::new(alloc, Vec::new(alloc))?)
+}
+
 /// RGB by a matrix of these columns.
-pub fn of_matrix(alloc: Global, columns: [i32; 9], curves: [Curve; 3]) -> Profile {
+pub fn of_matrix(alloc: Global, columns: [i32; 9], curves: [Curve; 3]) -> Mem<Profile> {
     let base = Some(Base::Matrix { columns, curves });
-    Profile::of_parts(Vec::new(alloc), false, 3, base, NONE, NONE)
+    Ok(Profile::of_parts(nothing(alloc)?, false, 3, base, NONE, NONE))
 }
 
 /// RGB by a matrix, with the values themselves as linear ones.
-pub fn of_columns(alloc: Global, columns: [i32; 9]) -> Profile {
+pub fn of_columns(alloc: Global, columns: [i32; 9]) -> Mem<Profile> {
     let curves = [Curve::identity(), Curve::identity(), Curve::identity()];
     of_matrix(alloc, columns, curves)
 }
 
 /// A target whose values are X, Y and Z.
-pub fn of_xyz(alloc: Global) -> Profile {
+pub fn of_xyz(alloc: Global) -> Mem<Profile> {
     of_columns(alloc, XYZ)
 }
 
 /// Gray by a curve.
-pub fn of_gray(alloc: Global, lab: bool, curve: Curve) -> Profile {
+pub fn of_gray(alloc: Global, lab: bool, curve: Curve) -> Mem<Profile> {
     let base = Some(Base::Gray { curve });
-    Profile::of_parts(Vec::new(alloc), lab, 1, base, NONE, NONE)
+    Ok(Profile::of_parts(nothing(alloc)?, lab, 1, base, NONE, NONE))
 }
 
 /// A source with a lut.
-pub fn reader(alloc: Global, lab: bool, lut: Lut) -> Profile
+pub fn reader(alloc: Global, lab: bool, lut: Lut) -> Mem<Profile>
     requires { lut.wide ≡ false → lab ≡ true }
 {
     let channels = lut.inputs;
     let forward = [Some(Transform::Lut(lut)), None, None];
-    Profile::of_parts(Vec::new(alloc), lab, channels, None, forward, NONE)
+    Ok(Profile::of_parts(nothing(alloc)?, lab, channels, None, forward, NONE))
 }
 
 /// A source with a lut for perceptual and one for relative rendering.
-pub fn reader_of_two(alloc: Global, perceptual: Lut, relative: Lut) -> Profile
+pub fn reader_of_two(alloc: Global, perceptual: Lut, relative: Lut) -> Mem<Profile>
     requires perceptual { perceptual.inputs ≡ 3 }
     requires relative { relative.inputs ≡ 3 }
 {
@@ -122,11 +169,11 @@ pub fn reader_of_two(alloc: Global, perceptual: Lut, relative: Lut) -> Profile
         Some(Transform::Lut(relative)),
         None,
     ];
-    Profile::of_parts(Vec::new(alloc), true, 3, None, forward, NONE)
+    Ok(Profile::of_parts(nothing(alloc)?, true, 3, None, forward, NONE))
 }
 
 /// RGB with a lut for each way.
-pub fn writer(alloc: Global, lab: bool, forward: Lut, backward: Lut) -> Profile
+pub fn writer(alloc: Global, lab: bool, forward: Lut, backward: Lut) -> Mem<Profile>
     requires forward_inputs { forward.inputs ≡ 3 }
     requires backward_inputs { backward.inputs ≡ 3 }
     requires forward_lab { forward.wide ≡ false → lab ≡ true }
@@ -134,7 +181,7 @@ pub fn writer(alloc: Global, lab: bool, forward: Lut, backward: Lut) -> Profile
 {
     let forward = [Some(Transform::Lut(forward)), None, None];
     let backward = [Some(Transform::Lut(backward)), None, None];
-    Profile::of_parts(Vec::new(alloc), lab, 3, None, forward, backward)
+    Ok(Profile::of_parts(nothing(alloc)?, lab, 3, None, forward, backward))
 }
 
 /// A code of so many channels; bytes behind them count for nothing.

@@ -4,7 +4,7 @@ ghost use Rattle.std.specs.Option.{option_copied};
 ghost use Rattle.md5.specs.Md5.{md5};
 ghost use Rattle.icc_model.specs.Profile.{ProfileValue, IsProfile, IsSuitedTransform, IsBase, number_of, nth, chosen};
 
-use icc_tables::{Curve, Lut};
+use icc_tables::{Curve, Lut, SharedBytes};
 use md5::{Digest, Md5};
 use std::marker::Model;
 
@@ -54,7 +54,7 @@ pub enum Base {
 /// A colour profile. It is shared, and never copied.
 #[derive(Drop)]
 pub struct Profile {
-    bytes: Vec<u8>,
+    bytes: SharedBytes,
     lab: bool,
     channels: u8,
     base: Option<Base>,
@@ -68,7 +68,7 @@ impl Model for Profile {
     ghost Value = { ProfileValue };
 
     ghost view = { λ p. record {
-      bytes = p.bytes.items;
+      bytes = p.bytes;
       lab = p.lab;
       channels = p.channels;
       base = p.base;
@@ -78,7 +78,7 @@ impl Model for Profile {
     } };
 
     ghost invariant = { λ p. IsProfile (record {
-      bytes = p.bytes.items;
+      bytes = p.bytes;
       lab = p.lab;
       channels = p.channels;
       base =
@@ -89,9 +89,10 @@ impl Model for Profile {
 }
 
 impl Profile {
-    /// The profile of these parts, whose bytes they were read from.
+    /// The profile of these parts, whose bytes they were read from. Lattices that stand in these share
+    /// them with it.
     pub fn of_parts(
-        bytes: Vec<u8>,
+        bytes: SharedBytes,
         lab: bool,
         channels: u8,
         base: Option<Base>,
@@ -99,7 +100,7 @@ impl Profile {
         backward: [Option<Transform>; 3],
     ) -> Profile
         requires { IsProfile (record {
-          bytes = bytes.items;
+          bytes = bytes;
           lab = lab;
           channels = channels;
           base = base;
@@ -108,7 +109,7 @@ impl Profile {
           backward = backward;
         }) }
         ensures { result ≡ record {
-          bytes = bytes.items;
+          bytes = bytes;
           lab = lab;
           channels = channels;
           base = base;
@@ -188,7 +189,7 @@ impl Profile {
     pub fn bytes(&self) -> &[u8]
         ensures { result.now ≡ self.now.bytes }
     {
-        &self.bytes
+        self.bytes.items()
     }
 
     /// The MD5 of these bytes.
@@ -196,7 +197,7 @@ impl Profile {
         ensures { result ≡ md5 self.now.bytes }
     {
         let mut hasher = Md5::new();
-        hasher.update(self.bytes.as_slice());
+        hasher.update(self.bytes.items());
         hasher.finalize()
     }
 }

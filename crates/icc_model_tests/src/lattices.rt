@@ -1,9 +1,25 @@
 //! Lattices of one and of three channels: at grid points, between them, and at both ends.
-use icc_model::{Lut, Values, lattice_at};
+ghost use Rattle.std.specs.Prelude.{◌≡◌, length, IfOk};
+ghost use Rattle.icc_tables.specs.Lattice.{AreAtMost};
+
+use byteorder::{BigEndian, ByteOrder};
+use icc_model::{Lut, NodeSize, Nodes, SharedBytes, Values, lattice_at};
+use std::alloc::{AllocError, Global};
 use std::test::Fail;
 
 /// The matrix that changes nothing.
 const SAME: [i32; 9] = [65536, 0, 0, 0, 65536, 0, 0, 0, 65536];
+
+/// Nodes of these values, of two bytes each.
+fn nodes(alloc: Global, values: &[u16]) -> Result<Nodes, AllocError>
+    ensures count { IfOk result (λ nodes. length nodes ≡ length values.now) }
+    ensures most { IfOk result (AreAtMost 65535) }
+{
+    let mut bytes = vec![in alloc; 0; 2 * values.len()]?;
+    BigEndian::write_u16_into(values, &mut bytes);
+    let bytes = SharedBytes::new(alloc, bytes)?;
+    Ok(Nodes::new(bytes, 0, values.len(), NodeSize::Word))
+}
 
 #[test]
 fn a_lattice_of_one_channel(rt: HostRuntime) -> Result<(), Fail> {
@@ -15,9 +31,10 @@ fn a_lattice_of_one_channel(rt: HostRuntime) -> Result<(), Fail> {
         before_count: 2,
         after_count: 2,
         before: Values::from_vec(vec![in rt.alloc(); 0, 65535]?),
-        nodes: Values::from_vec(vec![in rt.alloc();
-            19772, 0, 65535, 11265, 65535, 0, 0, 65535, 6105,
-        ]?),
+        nodes: nodes(
+            rt.alloc(),
+            &[19772, 0, 65535, 11265, 65535, 0, 0, 65535, 6105],
+        )?,
         after: Values::from_vec(vec![in rt.alloc(); 0, 65535, 0, 65535, 0, 65535]?),
     };
     // point, values
@@ -61,10 +78,13 @@ fn a_lattice_of_three_channels(rt: HostRuntime) -> Result<(), Fail> {
         before_count: 2,
         after_count: 2,
         before: Values::from_vec(vec![in rt.alloc(); 0, 65535, 0, 65535, 0, 65535]?),
-        nodes: Values::from_vec(vec![in rt.alloc();
-            0, 65535, 26787, 250, 15716, 65535, 0, 60707, 65535, 65535, 19159, 65535, 0, 65535,
-            27661, 65535, 33995, 17180, 65535, 2451, 65535, 18554, 15772, 0,
-        ]?),
+        nodes: nodes(
+            rt.alloc(),
+            &[
+                0, 65535, 26787, 250, 15716, 65535, 0, 60707, 65535, 65535, 19159, 65535, 0, 65535,
+                27661, 65535, 33995, 17180, 65535, 2451, 65535, 18554, 15772, 0,
+            ],
+        )?,
         after: Values::from_vec(vec![in rt.alloc(); 0, 65535, 0, 65535, 0, 65535]?),
     };
     // point, values

@@ -6,6 +6,8 @@ use Rattle.std.specs.Option.{option_map_or}
 use Rattle.std.specs.List.{range_with_len, flat_map}
 use Rattle.icc_tables.specs.Curves.{CurveValue}
 use Rattle.icc_tables.specs.Lattice.{LutValue}
+use Rattle.icc_tables.specs.Stored.{nodes_of}
+use Rattle.icc_tables.specs.declared.nodes.NodeSize.TheVariants.{Byte, Word}
 use Rattle.icc_power.specs.CurveTag.{u16_at, s15_at, type_of, curve_of}
 use Rattle.icc_model.specs.Profile.{ProfileValue}
 use Rattle.icc_model.specs.declared.profile.Transform.{Transform}
@@ -40,7 +42,7 @@ lut8 inputs tag = record {
   before_count = 256;
   after_count = 256;
   before = bytes_from tag 48 (inputs * 256);
-  nodes = bytes_from tag (48 + inputs * 256) (node_count inputs tag);
+  nodes = nodes_of Byte tag (48 + inputs * 256) (node_count inputs tag);
   after = bytes_from tag (48 + inputs * 256 + node_count inputs tag) (3 * 256);
 }
 
@@ -54,7 +56,7 @@ lut16 inputs tag = record {
   before_count = before_count tag;
   after_count = after_count tag;
   before = words_from tag 52 (inputs * before_count tag);
-  nodes = words_from tag (52 + 2 * (inputs * before_count tag)) (node_count inputs tag);
+  nodes = nodes_of Word tag (52 + 2 * (inputs * before_count tag)) (node_count inputs tag);
   after = words_from tag (52 + 2 * (inputs * before_count tag + node_count inputs tag)) (3 * after_count tag);
 }
 

@@ -3,13 +3,14 @@ ghost use Rattle.std.specs.Prelude.{◌≡◌, ◌≤◌, ◌+◌, ◌*◌, fals
 ghost use Rattle.press_nums.specs.Whole.{IsWhole};
 ghost use Rattle.icc_power.specs.CurveTag.{s15_at};
 ghost use Rattle.icc_tables.specs.Lattice.{AreAtMost};
+ghost use Rattle.icc_tables.specs.Stored.{size_of, most_of, nodes_of};
 ghost use Rattle.icc_model.specs.Profile.{IsSuitedTransform};
 ghost use Rattle.icc_read.specs.Content.{is_other_transform, is_bad_transform};
 ghost use Rattle.icc_read.specs.Read.{signed_numbers, bytes_from, words_from, lut8, lut16, transform_of};
-ghost use Rattle.icc_read.specs.Code.Premises.{IsChannels, IsMft1, IsMft2};
+ghost use Rattle.icc_read.specs.Code.Premises.{IsChannels, IsMft1, IsMft2, IsTagAt};
 
 use crate::content::{is_mft2, node_count};
-use icc_model::{Lut, Transform, Values};
+use icc_model::{Lut, NodeSize, Nodes, SharedBytes, Transform, Values};
 use icc_power::{s15_at, u16_at};
 use press_fault::Mem;
 use std::alloc::Global;
@@ -71,9 +72,51 @@ fn words_from(alloc: Global, tag: &[u8], at: usize, count: usize) -> Mem<Values>
     Ok(Values::from_vec(values))
 }
 
+/// So many nodes of a lattice, from a place of a tag on. They stand in the profile's bytes, and take
+/// no memory beside these.
+fn nodes_from(
+    bytes: &SharedBytes,
+    offset: usize,
+    tag: &[u8],
+    at: usize,
+    count: usize,
+    size: NodeSize,
+) -> Mem<Nodes>
+    requires place { IsTagAt bytes.now offset tag.now }
+    requires inside { at + size_of size * count ≤ length tag.now }
+    ensures items { IfOk result (λ nodes. nodes ≡ nodes_of size tag.now at count) }
+    ensures length { IfOk result (λ nodes. length nodes ≡ count) }
+    ensures most { IfOk result (AreAtMost (most_of size)) }
+{
+    Ok(Nodes::new(bytes.share()?, offset + at, count, size))
+}
+
+/// Such nodes of one byte each.
+fn bytes_in(bytes: &SharedBytes, offset: usize, tag: &[u8], at: usize, count: usize) -> Mem<Nodes>
+    requires place { IsTagAt bytes.now offset tag.now }
+    requires inside { at + count ≤ length tag.now }
+    ensures items { IfOk result (λ nodes. nodes ≡ nodes_of NodeSize.Byte tag.now at count) }
+    ensures length { IfOk result (λ nodes. length nodes ≡ count) }
+    ensures most { IfOk result (AreAtMost 255) }
+{
+    nodes_from(bytes, offset, tag, at, count, NodeSize::Byte)
+}
+
+/// Such nodes of two bytes each.
+fn words_in(bytes: &SharedBytes, offset: usize, tag: &[u8], at: usize, count: usize) -> Mem<Nodes>
+    requires place { IsTagAt bytes.now offset tag.now }
+    requires inside { at + 2 * count ≤ length tag.now }
+    ensures items { IfOk result (λ nodes. nodes ≡ nodes_of NodeSize.Word tag.now at count) }
+    ensures length { IfOk result (λ nodes. length nodes ≡ count) }
+    ensures most { IfOk result (AreAtMost 65535) }
+{
+    nodes_from(bytes, offset, tag, at, count, NodeSize::Word)
+}
+
 /// A lut of 8 bits.
 #[tactic(auto, unfolding(crate::specs::Read::lut8))]
-fn lut8(alloc: Global, inputs: u8, tag: &[u8]) -> Mem<Lut>
+fn lut8(alloc: Global, inputs: u8, bytes: &SharedBytes, offset: usize, tag: &[u8]) -> Mem<Lut>
+    requires place { IsTagAt bytes.now offset tag.now }
     requires channels { IsChannels inputs }
     requires good { IsMft1 inputs tag.now }
     ensures { IfOk result (λ lut. lut ≡ lut8 inputs tag.now) }
@@ -89,14 +132,15 @@ fn lut8(alloc: Global, inputs: u8, tag: &[u8]) -> Mem<Lut>
         before_count: 256,
         after_count: 256,
         before: bytes_from(alloc, tag, 48, before)?,
-        nodes: bytes_from(alloc, tag, 48 + before, nodes)?,
+        nodes: bytes_in(bytes, offset, tag, 48 + before, nodes)?,
         after: bytes_from(alloc, tag, 48 + before + nodes, 3 * 256)?,
     })
 }
 
 /// A lut of 16 bits.
 #[tactic(auto, unfolding(crate::specs::Read::lut16))]
-fn lut16(alloc: Global, inputs: u8, tag: &[u8]) -> Mem<Lut>
+fn lut16(alloc: Global, inputs: u8, bytes: &SharedBytes, offset: usize, tag: &[u8]) -> Mem<Lut>
+    requires place { IsTagAt bytes.now offset tag.now }
     requires channels { IsChannels inputs }
     requires good { IsMft2 inputs tag.now }
     ensures { IfOk result (λ lut. lut ≡ lut16 inputs tag.now) }
@@ -115,14 +159,22 @@ fn lut16(alloc: Global, inputs: u8, tag: &[u8]) -> Mem<Lut>
         before_count,
         after_count,
         before: words_from(alloc, tag, 52, before)?,
-        nodes: words_from(alloc, tag, 52 + 2 * before, nodes)?,
+        nodes: words_in(bytes, offset, tag, 52 + 2 * before, nodes)?,
         after: words_from(alloc, tag, 52 + 2 * (before + nodes), after)?,
     })
 }
 
-/// The transform of a tag that is one of so many channels.
+/// The transform of a tag that is one of so many channels, and begins at this place of the profile.
 #[tactic(auto, using(crate::proofs::Shapes::transform_long), unfolding(crate::specs::Read::transform_of))]
-pub(crate) fn transform_of(alloc: Global, lab: bool, inputs: u8, tag: &[u8]) -> Mem<Transform>
+pub(crate) fn transform_of(
+    alloc: Global,
+    lab: bool,
+    inputs: u8,
+    bytes: &SharedBytes,
+    offset: usize,
+    tag: &[u8],
+) -> Mem<Transform>
+    requires place { IsTagAt bytes.now offset tag.now }
     requires channels { IsChannels inputs }
     requires known { is_other_transform lab tag.now ≡ false }
     requires shape { is_bad_transform inputs tag.now ≡ false }
@@ -130,8 +182,8 @@ pub(crate) fn transform_of(alloc: Global, lab: bool, inputs: u8, tag: &[u8]) -> 
     ensures suited { IfOk result (λ transform. IsSuitedTransform lab inputs (Some transform)) }
 {
     if is_mft2(tag) {
-        Ok(Transform::Lut(lut16(alloc, inputs, tag)?))
+        Ok(Transform::Lut(lut16(alloc, inputs, bytes, offset, tag)?))
     } else {
-        Ok(Transform::Lut(lut8(alloc, inputs, tag)?))
+        Ok(Transform::Lut(lut8(alloc, inputs, bytes, offset, tag)?))
     }
 }

@@ -11,9 +11,9 @@ ghost use Rattle.icc_read.specs.Code.Premises.{IsTabled, IsSound, IsSoundTag, Ar
 
 use crate::content::Content;
 use crate::luts::{signed_at, transform_of};
-use crate::table::{channels_of, entry_of, is_lab, is_rgb, tag_of};
+use crate::table::{bytes_of, channels_of, entry_of, is_lab, is_rgb, tag_of};
 use crate::used::{BACKWARD, COLUMNS, CURVES, FORWARD, GRAY_CURVE, has_gray_curve, has_matrix};
-use icc_model::{Base, Curve, Transform};
+use icc_model::{Base, Curve, SharedBytes, Transform};
 use icc_power::curve_of_tag;
 use press_fault::Mem;
 use std::alloc::Global;
@@ -21,7 +21,7 @@ use std::alloc::Global;
 /// The transform of a signature, if its tag is there.
 fn transform_at(
     alloc: Global,
-    bytes: &[u8],
+    bytes: &SharedBytes,
     lab: bool,
     inputs: u8,
     signature: u32,
@@ -33,9 +33,13 @@ fn transform_at(
         ≡ option_map (transform_of inputs) (tag_of bytes.now signature)) }
     ensures suited { IfOk result (IsSuitedTransform lab inputs) }
 {
-    match tag_of(bytes, signature) {
+    match entry_of(bytes.items(), signature) {
         None => Ok(None),
-        Some(tag) => Ok(Some(transform_of(alloc, lab, inputs, tag)?)),
+        Some(entry) => {
+            let tag = bytes_of(bytes.items(), entry);
+            let offset = entry.offset as usize;
+            Ok(Some(transform_of(alloc, lab, inputs, bytes, offset, tag)?))
+        }
     }
 }
 
@@ -43,7 +47,7 @@ fn transform_at(
 #[tactic(auto, using(crate::proofs::Sound::tags_first, crate::proofs::Sound::tags_second, crate::proofs::Sound::tags_third))]
 fn transforms_of(
     alloc: Global,
-    bytes: &[u8],
+    bytes: &SharedBytes,
     lab: bool,
     inputs: u8,
     signatures: [u32; 3],
@@ -63,23 +67,25 @@ fn transforms_of(
 }
 
 /// The transforms to the connection space.
-pub(crate) fn forward_of(alloc: Global, bytes: &[u8]) -> Mem<[Option<Transform>; 3]>
+pub(crate) fn forward_of(alloc: Global, bytes: &SharedBytes) -> Mem<[Option<Transform>; 3]>
     requires { IsSound bytes.now }
     ensures value { IfOk result (λ transforms. transforms ≡ forward_of bytes.now) }
     ensures suited { IfOk result (AreSuited (is_lab bytes.now) (channels_of bytes.now)) }
 {
-    transforms_of(alloc, bytes, is_lab(bytes), channels_of(bytes), FORWARD)
+    let lab = is_lab(bytes.items());
+    let inputs = channels_of(bytes.items());
+    transforms_of(alloc, bytes, lab, inputs, FORWARD)
 }
 
 /// The transforms from the connection space, which only a profile of RGB has.
 #[tactic(auto, using(crate::proofs::Sound::none_suited))]
-pub(crate) fn backward_of(alloc: Global, bytes: &[u8]) -> Mem<[Option<Transform>; 3]>
+pub(crate) fn backward_of(alloc: Global, bytes: &SharedBytes) -> Mem<[Option<Transform>; 3]>
     requires { IsSound bytes.now }
     ensures value { IfOk result (λ transforms. transforms ≡ backward_of bytes.now) }
     ensures suited { IfOk result (AreSuited (is_lab bytes.now) 3) }
 {
-    if is_rgb(bytes) {
-        transforms_of(alloc, bytes, is_lab(bytes), 3, BACKWARD)
+    if is_rgb(bytes.items()) {
+        transforms_of(alloc, bytes, is_lab(bytes.items()), 3, BACKWARD)
     } else {
         Ok([None, None, None])
     }

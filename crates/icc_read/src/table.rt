@@ -5,7 +5,7 @@ ghost use Rattle.icc_read.specs.Table.{EntryValue, entry_at, entry_of, bytes_of,
 ghost use Rattle.icc_read.specs.Table.{gray, rgb};
 ghost use Rattle.icc_read.specs.Faults.{is_outside};
 ghost use Rattle.icc_read.specs.Tags.{has_tag, is_gray, is_rgb, is_lab, channels_of};
-ghost use Rattle.icc_read.specs.Code.Premises.{IsTabled, IsChannels};
+ghost use Rattle.icc_read.specs.Code.Premises.{IsTabled, IsChannels, IsTagAt};
 
 use icc_power::u32_at;
 
@@ -87,9 +87,11 @@ pub(crate) fn entry_of(bytes: &[u8], signature: u32) -> Option<Entry>
 }
 
 /// The bytes of an entry's tag.
-fn bytes_of(bytes: &[u8], entry: Entry) -> &[u8]
+#[tactic(auto, using(crate::proofs::Lists::tag_place))]
+pub(crate) fn bytes_of(bytes: &[u8], entry: Entry) -> &[u8]
     requires { entry.offset + entry.size ≤ length bytes.now }
-    ensures { result.now ≡ bytes_of bytes.now entry }
+    ensures value { result.now ≡ bytes_of bytes.now entry }
+    ensures place { IsTagAt bytes.now entry.offset result.now }
 {
     let (_, rest) = bytes.split_at(entry.offset as usize);
     let (tag, _) = rest.split_at(entry.size as usize);

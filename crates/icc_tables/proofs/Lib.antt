@@ -1,3 +1,4 @@
 pub mod Tables
 mod Worked
 pub mod Corners
+pub mod Stored

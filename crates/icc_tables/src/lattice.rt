@@ -5,7 +5,7 @@ ghost use Rattle.icc_tables.specs.Rounded.{rounded};
 ghost use Rattle.icc_tables.specs.Lattice.{LutValue, top_of, corner_sum, node_value, lattice_at, entry_at, lut_value};
 ghost use Rattle.icc_tables.specs.Lattice.{AreAtMost, AreSmall, AreMixed, IsPoint};
 
-use crate::curve::table_at;
+use crate::nodes::Nodes;
 use crate::values::Values;
 use std::marker::Model;
 
@@ -25,7 +25,7 @@ pub struct Lut {
     pub before_count: u16,
     pub after_count: u16,
     pub before: Values,
-    pub nodes: Values,
+    pub nodes: Nodes,
     pub after: Values,
 }
 
@@ -102,7 +102,7 @@ fn grid_of(lut: &Lut) -> usize
 fn node_count(lut: &Lut) -> usize
     ensures { result ≡ length lut.now.nodes }
 {
-    lut.nodes.items().len()
+    lut.nodes.count()
 }
 
 /// The cell of the grid that a value lies in along a channel, by its first grid point, and the
@@ -186,7 +186,7 @@ fn sum_corners(lut: &Lut, at: &[u16], weight: u64, place: usize) -> Sums
         return NOTHING;
     }
     match at.split_first() {
-        None => corner(lut.nodes.items(), weight, place),
+        None => corner(&lut.nodes, weight, place),
         Some((v, rest)) => {
             let ends = ends_of(lut, *v, rest, weight, place);
             let low = sum_corners(lut, rest, ends.low, ends.place);
@@ -229,7 +229,7 @@ const NOTHING: Sums = Sums {
 };
 
 /// One corner: a weight times the three values of a node.
-fn corner(nodes: &[u16], weight: u64, place: usize) -> Sums
+fn corner(nodes: &Nodes, weight: u64, place: usize) -> Sums
     requires weight { weight ≤ 65535 ^ 4 }
     requires place { place * 3 + 2 < length nodes.now }
     ensures first { result.first ≡ weight * slice_index nodes.now (place * 3 + 0) }
@@ -237,10 +237,12 @@ fn corner(nodes: &[u16], weight: u64, place: usize) -> Sums
     ensures third { result.third ≡ weight * slice_index nodes.now (place * 3 + 2) }
     ensures bounds { AreSmall result }
 {
+    // Its own range bounds every place.
+    let _count = nodes.count();
     Sums {
-        first: weighted(weight, nodes[place * 3]),
-        second: weighted(weight, nodes[place * 3 + 1]),
-        third: weighted(weight, nodes[place * 3 + 2]),
+        first: weighted(weight, nodes.at(place * 3)),
+        second: weighted(weight, nodes.at(place * 3 + 1)),
+        third: weighted(weight, nodes.at(place * 3 + 2)),
     }
 }
 

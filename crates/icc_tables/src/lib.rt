@@ -8,15 +8,19 @@
 
 mod curve;
 mod lattice;
+mod nodes;
 mod pcs;
 mod pipeline;
 mod rounded;
+mod shared;
 mod values;
 
 pub use curve::{Curve, curve_at, curve_back};
 pub use lattice::{Lut, lattice_at};
+pub use nodes::{NodeSize, Nodes};
 pub use pcs::{
     Pcs, clamped, in_chroma, in_lightness, in_xyz, lab_of_xyz, lab_to_xyz, xyz_of_lab, xyz_to_lab,
 };
 pub use pipeline::{before, of_four, of_one, of_point, of_three};
+pub use shared::SharedBytes;
 pub use values::Values;

@@ -1,5 +1,5 @@
 //! When two keys are the same, and that a link has the key asked.
-use icc_model::{Base, Curve, Intent, Profile};
+use icc_model::{Base, Curve, Intent, Profile, SharedBytes};
 use link_build::{Link, LinkKey, build};
 use link_cache::Made;
 use press_fault::Mem;
@@ -13,7 +13,7 @@ fn of_bytes(alloc: Global, bytes: &[u8]) -> Mem<Profile> {
         columns: [131070, 0, 0, 0, 131070, 0, 0, 0, 131070],
         curves: [Curve::identity(), Curve::identity(), Curve::identity()],
     });
-    let bytes = Vec::from_slice(alloc, bytes)?;
+    let bytes = SharedBytes::new(alloc, Vec::from_slice(alloc, bytes)?)?;
     Ok(Profile::of_parts(
         bytes,
         false,

@@ -27,7 +27,7 @@ fn falling(alloc: Global) -> Mem<Curve> {
 /// A matrix whose three curves differ: the identity, one that rises and one that falls.
 fn matrix(alloc: Global, columns: [i32; 9]) -> Mem<Profile> {
     let curves = [Curve::identity(), bent(alloc)?, falling(alloc)?];
-    Ok(of_matrix(alloc, columns, curves))
+    of_matrix(alloc, columns, curves)
 }
 
 /// The columns of Adobe RGB with red and green exchanged: the determinant is negative.
@@ -39,8 +39,8 @@ const LARGE: [i32; 9] = [2000000000, 3, 7, -5, 1900000000, 11, 13, -17, 18000000
 /// A source of each kind: a matrix; gray; luts of one, three and four channels, of 16 and of 8 bits,
 /// to XYZ and to Lab.
 pub(crate) fn source(alloc: Global, number: u8) -> Mem<Profile> {
-    Ok(match number {
-        0 => matrix(alloc, SRGB)?,
+    match number {
+        0 => matrix(alloc, SRGB),
         1 => of_gray(alloc, false, bent(alloc)?),
         2 => of_gray(alloc, true, bent(alloc)?),
         3 => reader(alloc, false, lut(alloc, true, 3, 3, 81, 5, 40503)?),
@@ -50,16 +50,16 @@ pub(crate) fn source(alloc: Global, number: u8) -> Mem<Profile> {
         7 => reader(alloc, false, lut(alloc, true, 4, 3, 243, 5, 40503)?),
         8 => reader(alloc, true, lut(alloc, true, 4, 3, 243, 5, 40503)?),
         _ => reader(alloc, true, lut(alloc, false, 4, 3, 243, 256, 157)?),
-    })
+    }
 }
 
 /// A target of each kind: matrices with a positive and a negative determinant and with large
 /// elements; luts of 16 bits from XYZ and from Lab, and of 8 bits.
 pub(crate) fn target(alloc: Global, number: u8) -> Mem<Profile> {
-    Ok(match number {
-        0 => matrix(alloc, ADOBE)?,
-        1 => matrix(alloc, TURNED)?,
-        2 => matrix(alloc, LARGE)?,
+    match number {
+        0 => matrix(alloc, ADOBE),
+        1 => matrix(alloc, TURNED),
+        2 => matrix(alloc, LARGE),
         3 => writer(
             alloc,
             false,
@@ -78,5 +78,5 @@ pub(crate) fn target(alloc: Global, number: u8) -> Mem<Profile> {
             lut(alloc, false, 3, 3, 81, 256, 157)?,
             lut(alloc, false, 3, 3, 81, 256, 91)?,
         ),
-    })
+    }
 }

@@ -76,7 +76,9 @@ fn print_lut(rt: &HostRuntime, lut: &Lut) -> io::Result<()> {
 fn digest(lut: &Lut) -> [u8; 16] {
     let mut hasher = Md5::new();
     add(&mut hasher, &lut.before);
-    add(&mut hasher, &lut.nodes);
+    for k in 0..lut.nodes.count() {
+        hasher.update(lut.nodes.at(k).to_be_bytes().as_slice());
+    }
     add(&mut hasher, &lut.after);
     hasher.finalize()
 }

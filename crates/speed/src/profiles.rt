@@ -2,7 +2,8 @@
 ghost use Rattle.std.specs.Prelude.{◌≡◌, IfOk, length};
 ghost use Rattle.icc_tables.specs.Lattice.{AreAtMost};
 
-use icc_model::{Base, Curve, Lut, Profile, Transform, Values};
+use byteorder::{BigEndian, ByteOrder};
+use icc_model::{Base, Curve, Lut, NodeSize, Nodes, Profile, SharedBytes, Transform, Values};
 use press_fault::Mem;
 use std::alloc::Global;
 
@@ -54,6 +55,22 @@ fn squares(alloc: Global) -> Mem<Curve> {
     Ok(Curve::of_values(values))
 }
 
+/// Nodes of these values, of two bytes each.
+fn nodes(alloc: Global, values: &[u16]) -> Mem<Nodes>
+    ensures count { IfOk result (λ nodes. length nodes ≡ length values.now) }
+    ensures most { IfOk result (AreAtMost 65535) }
+{
+    let mut bytes = vec![in alloc; 0; 2 * values.len()]?;
+    BigEndian::write_u16_into(values, &mut bytes);
+    let bytes = SharedBytes::new(alloc, bytes)?;
+    Ok(Nodes::new(bytes, 0, values.len(), NodeSize::Word))
+}
+
+/// No bytes: the profiles of the benchmark weren't read from any.
+fn nothing(alloc: Global) -> Mem<SharedBytes> {
+    Ok(SharedBytes::new(alloc, Vec::new(alloc))?)
+}
+
 /// No transforms.
 const NONE: [Option<Transform>; 3] = [None, None, None];
 
@@ -61,11 +78,13 @@ const NONE: [Option<Transform>; 3] = [None, None, None];
 pub(crate) fn of_matrix(alloc: Global, columns: [i32; 9]) -> Mem<Profile> {
     let curves = [squares(alloc)?, squares(alloc)?, squares(alloc)?];
     let base = Some(Base::Matrix { columns, curves });
-    Ok(Profile::of_parts(Vec::new(alloc), false, 3, base, NONE, NONE))
+    Ok(Profile::of_parts(nothing(alloc)?, false, 3, base, NONE, NONE))
 }
 
 /// CMYK to Lab by a lattice of 9 points along each channel, between tables of 33 entries and of 2.
 pub(crate) fn of_lattice(alloc: Global, words: &mut Words) -> Mem<Profile> {
+    let before = words.values(alloc, 132)?;
+    let lattice = words.values(alloc, 19683)?;
     let lut = Lut {
         wide: true,
         inputs: 4,
@@ -73,10 +92,10 @@ pub(crate) fn of_lattice(alloc: Global, words: &mut Words) -> Mem<Profile> {
         matrix: [65536, 0, 0, 0, 65536, 0, 0, 0, 65536],
         before_count: 33,
         after_count: 2,
-        before: words.values(alloc, 132)?,
-        nodes: words.values(alloc, 19683)?,
+        before,
+        nodes: nodes(alloc, lattice.items())?,
         after: Values::from_vec(vec![in alloc; 0, 65535, 0, 65535, 0, 65535]?),
     };
     let forward = [Some(Transform::Lut(lut)), None, None];
-    Ok(Profile::of_parts(Vec::new(alloc), true, 4, None, forward, NONE))
+    Ok(Profile::of_parts(nothing(alloc)?, true, 4, None, forward, NONE))
 }

@@ -1,5 +1,6 @@
 -- What the reader of a tag may take for granted: the tests before it, as facts.
-use Rattle.std.specs.Prelude.{◌≡◌, ◌≤◌, ◌⊎◌, ℕ, ◌+◌, ◌*◌, Bool, false, List, Option, length, slice_index}
+use Rattle.std.specs.Prelude.{◌≡◌, ◌≤◌, ◌⊎◌, ℕ, ◌+◌, ◌*◌, Bool, false, List, Option, length, slice_index, take}
+use Rattle.std.specs.Prelude.{drop}
 use Rattle.std.specs.Option.{option_map_or}
 use Rattle.icc_model.specs.Profile.{IsSuitedTransform, nth}
 use Rattle.icc_model.specs.declared.profile.Transform.{Transform}
@@ -34,6 +35,11 @@ pub record AreSoundTags (bytes : List ℕ) (content : Content) (signatures : Lis
 pub record IsSoundTag (bytes : List ℕ) (content : Content) (signature : ℕ) : Type 0 where
   pub known : option_map_or (has_other_type content) (tag_of bytes signature) false ≡ false
   pub shape : option_map_or (is_misshapen content) (tag_of bytes signature) false ≡ false
+
+-- a tag's bytes stand at a place among those of the profile
+pub record IsTagAt (bytes : List ℕ) (offset : ℕ) (tag : List ℕ) : Type 0 where
+  pub inside : offset + length tag ≤ length bytes
+  pub is : tag ≡ take (length tag) (drop offset bytes)
 
 -- the channels of a colour space: 1, 3 or 4
 abbrev pub IsChannels : ℕ → Type 0

@@ -7,14 +7,15 @@ use Rattle.icc_read.proofs.read.profile_of.Goals as goal
 
 -- the parts are those of a profile
 pub of_parts-requires : goal.of_parts-requires
-of_parts-requires c = parts_fit c.args.bytes.items c.truncate.new.self.items c.is_lab-lab.result
+of_parts-requires c = parts_fit c.args.bytes.items c.cut-bytes.result c.is_lab-lab.result
     c.channels_of-channels.result c.in_ok-base.base c.in_ok-forward.forward c.in_ok-backward.backward c.requires
-    (c.is_lab-lab.ensures ∙ ap (λ (bs : List ℕ). is_lab bs) c.deref-4.ensures.value)
-    (c.channels_of-channels.ensures.value ∙ ap (λ (bs : List ℕ). channels_of bs) c.deref-5.ensures.value)
-    (c.in_ok-base.ensures ∙ ap (λ (bs : List ℕ). base_of bs) c.deref.ensures.value)
-    (c.in_ok-forward.ensures.value ∙ ap (λ (bs : List ℕ). forward_of bs) c.deref-2.ensures.value)
-    (c.in_ok-backward.ensures.value ∙ ap (λ (bs : List ℕ). backward_of bs) c.deref-3.ensures.value)
-    (subst (λ (bs : List ℕ). AreSuited (is_lab bs) (channels_of bs) c.in_ok-forward.forward) c.deref-2.ensures.value
+    (c.is_lab-lab.ensures ∙ ap (λ (bs : List ℕ). is_lab bs) (c.items-2.ensures ∙ c.in_ok-bytes.ensures))
+    (c.channels_of-channels.ensures.value ∙ ap (λ (bs : List ℕ). channels_of bs) (c.items-3.ensures
+    ∙ c.in_ok-bytes.ensures))
+    (c.in_ok-base.ensures ∙ ap (λ (bs : List ℕ). base_of bs) (c.items.ensures ∙ c.in_ok-bytes.ensures))
+    (c.in_ok-forward.ensures.value ∙ ap (λ (bs : List ℕ). forward_of bs) c.in_ok-bytes.ensures)
+    (c.in_ok-backward.ensures.value ∙ ap (λ (bs : List ℕ). backward_of bs) c.in_ok-bytes.ensures)
+    (subst (λ (bs : List ℕ). AreSuited (is_lab bs) (channels_of bs) c.in_ok-forward.forward) c.in_ok-bytes.ensures
     c.in_ok-forward.ensures.suited)
-    (subst (λ (bs : List ℕ). AreSuited (is_lab bs) 3 c.in_ok-backward.backward) c.deref-3.ensures.value
+    (subst (λ (bs : List ℕ). AreSuited (is_lab bs) 3 c.in_ok-backward.backward) c.in_ok-bytes.ensures
     c.in_ok-backward.ensures.suited)
