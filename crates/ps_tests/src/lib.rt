@@ -1,7 +1,7 @@
 //! Worked examples of the interpreter and the graphics state that no program can show.
 #![tactic(auto)]
 
-ghost use Rattle.std.specs.Prelude.{◌≡◌, ◌×◌, IfOk, None};
+ghost use Rattle.std.specs.Prelude.{◌≡◌, IfOk, None};
 
 use geo_path::Path;
 use gfx_state::Gfx;
