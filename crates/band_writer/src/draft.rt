@@ -1,9 +1,11 @@
 //! The list of a band while it is written.
-ghost use Rattle.std.specs.Prelude.{◌≡◌, ℕ, IfOk, Some, None, length};
+ghost use Rattle.std.specs.Prelude.{◌≡◌, [], OnOk};
+ghost use Rattle.page_model.specs.Page.{ink_source};
 ghost use Rattle.list_codec.specs.Command.{IsCmd};
 ghost use Rattle.list_codec.specs.Spelling.{cmd_bytes};
-ghost use Rattle.band_writer.specs.Listing.{ListValue, opening, is_clip_told, needed_ink, SaysMark, told_after, paint_cmd};
-ghost use Rattle.band_writer.specs.Code.Drafts.{IsDraft, AddsMark, AddsInk, AddsClip, AddsNeed};
+ghost use Rattle.band_writer.specs.Bands.{mark_source};
+ghost use Rattle.band_writer.specs.Listing.{ListValue, is_clip_told, paint_cmd};
+ghost use Rattle.band_writer.specs.Code.Drafts.{IsDraft, empty_list, AddsMark, AddsInk, AddsClip, needs_after};
 
 use list_codec::{put_clip, put_flat};
 use page_model::{Ink, Mark, Paint};
@@ -25,7 +27,10 @@ pub struct Draft {
 
 impl Draft {
     /// A list without commands: its ink is gray 0, and its clip cuts nothing.
-    pub fn new(alloc: Global) -> Self {
+    pub fn new(alloc: Global) -> Self
+        ensures list { IsDraft empty_list result }
+        ensures needs { result.needs.items ≡ [] }
+    {
         Draft {
             bytes: Vec::new(alloc),
             needs: Vec::new(alloc),
@@ -36,7 +41,13 @@ impl Draft {
     }
 
     /// Adds a mark: its ink and its clip where they change, and the command that paints it.
-    pub fn add(&mut self, mark: &Mark, painted: &[u8]) -> Mem<()> {
+    pub fn add(&mut self, mark: &Mark, painted: &[u8]) -> Mem<()>
+        ensures list { (list : ListValue) → IsDraft list self.old →
+            painted.now ≡ cmd_bytes (paint_cmd list.place mark.now mark.now.paint) →
+            IsCmd (paint_cmd list.place mark.now mark.now.paint) → OnOk result (AddsMark list mark.now self.new) }
+        ensures needs { OnOk result
+            (self.new.needs.items ≡ needs_after self.old.needs.items (mark_source mark.now)) }
+    {
         match &mark.paint {
             Paint::Flat(ink) => self.say_ink(*ink)?,
             Paint::Image(_) => {}
@@ -48,7 +59,10 @@ impl Draft {
     }
 
     /// Says an ink, unless the list said it last.
-    fn say_ink(&mut self, ink: Ink) -> Mem<()> {
+    fn say_ink(&mut self, ink: Ink) -> Mem<()>
+        ensures list { (list : ListValue) → IsDraft list self.old → OnOk result (AddsInk list ink self.new) }
+        ensures needs { self.new.needs.items ≡ self.old.needs.items }
+    {
         if ink != self.ink {
             put_flat(&mut self.bytes, ink)?;
             self.ink = ink;
@@ -57,7 +71,10 @@ impl Draft {
     }
 
     /// Says the clip of a mark, unless the list said it last.
-    fn say_clip(&mut self, mark: &Mark) -> Mem<()> {
+    fn say_clip(&mut self, mark: &Mark) -> Mem<()>
+        ensures list { (list : ListValue) → IsDraft list self.old → OnOk result (AddsClip list mark.now self.new) }
+        ensures needs { self.new.needs.items ≡ self.old.needs.items }
+    {
         if self.is_clip_said(mark) {
             return Ok(());
         }
@@ -68,7 +85,9 @@ impl Draft {
     }
 
     /// Whether the clip of a mark was said last: neither cuts anything, or they have one number.
-    fn is_clip_said(&self, mark: &Mark) -> bool {
+    fn is_clip_said(&self, mark: &Mark) -> bool
+        ensures { (list : ListValue) → IsDraft list self.now → result ≡ is_clip_told list.told mark.now }
+    {
         if !self.cuts && mark.clip.items().is_empty() {
             return true;
         }
@@ -79,7 +98,10 @@ impl Draft {
     }
 
     /// Adds a source to the needs, unless it is the last of them.
-    fn need(&mut self, source: Option<u32>) -> Mem<()> {
+    fn need(&mut self, source: Option<u32>) -> Mem<()>
+        ensures list { (list : ListValue) → IsDraft list self.old → IsDraft list self.new }
+        ensures needs { OnOk result (self.new.needs.items ≡ needs_after self.old.needs.items source) }
+    {
         let Some(source) = source else {
             return Ok(());
         };
@@ -91,12 +113,16 @@ impl Draft {
 }
 
 /// The number of a mark's clip, if it has one.
-fn number_of(mark: &Mark) -> Option<u32> {
+fn number_of(mark: &Mark) -> Option<u32>
+    ensures { result ≡ mark.now.clip_number }
+{
     mark.clip_number
 }
 
 /// The source by which a mark's colours go, if it has one.
-fn source_of(mark: &Mark) -> Option<u32> {
+fn source_of(mark: &Mark) -> Option<u32>
+    ensures { result ≡ mark_source mark.now }
+{
     match &mark.paint {
         Paint::Flat(ink) => ink_source(*ink),
         Paint::Image(image) => image.source,
@@ -104,7 +130,9 @@ fn source_of(mark: &Mark) -> Option<u32> {
     }
 }
 
-fn ink_source(ink: Ink) -> Option<u32> {
+fn ink_source(ink: Ink) -> Option<u32>
+    ensures { result ≡ ink_source ink }
+{
     match ink {
         Ink::Plain(_) => None,
         Ink::Linked { source, .. } => Some(source),

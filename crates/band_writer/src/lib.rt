@@ -7,6 +7,7 @@
 
 mod draft;
 mod list;
+mod needs;
 mod parts;
 mod split;
 
