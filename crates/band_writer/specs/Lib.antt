@@ -1,0 +1,4 @@
+pub mod Bands
+pub mod Listing
+pub mod Parts
+pub mod Code
