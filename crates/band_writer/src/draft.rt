@@ -1,122 +1,165 @@
 //! The list of a band while it is written.
-ghost use Rattle.std.specs.Prelude.{◌≡◌, [], OnOk};
+ghost use Rattle.std.specs.Prelude.{◌≡◌, ◌++◌, OnOk, Option};
+ghost use Rattle.std.specs.List.{AllByRecursion};
 ghost use Rattle.page_model.specs.Page.{ink_source};
 ghost use Rattle.list_codec.specs.Command.{IsCmd};
-ghost use Rattle.list_codec.specs.Spelling.{cmd_bytes};
 ghost use Rattle.band_writer.specs.Bands.{mark_source};
-ghost use Rattle.band_writer.specs.Listing.{ListValue, is_clip_told, paint_cmd};
-ghost use Rattle.band_writer.specs.Code.Drafts.{IsDraft, empty_list, AddsMark, AddsInk, AddsClip, needs_after};
+ghost use Rattle.band_writer.specs.Listing.{same_ink, same_code, is_clip_told, has_regions, needed_ink, ink_cmds};
+ghost use Rattle.band_writer.specs.Listing.{clip_cmds, change_cmds, with_ink, with_clip, spelled};
+ghost use Rattle.band_writer.specs.Parts.{IsSpelling};
+ghost use Rattle.band_writer.specs.Code.Drafts.{empty_draft, draft_after};
 
-use list_codec::{put_clip, put_flat};
-use page_model::{Ink, Mark, Paint};
+use crate::list::BandList;
+use crate::needs::Needs;
+use page_model::{ClipNumber, Ink, Mark, Paint};
 use press_fault::{Code, Mem};
 use std::alloc::Global;
+use std::marker::Model;
 
-/// A band's list and needs so far.
+/// A band's list and needs so far, and what the list said last.
 #[derive(Drop)]
 pub struct Draft {
-    pub bytes: Vec<u8>,
-    pub needs: Vec<u32>,
-    /// The ink that the list said last.
+    list: BandList,
+    needs: Needs,
     ink: Ink,
-    /// The number of the clip that it said last.
-    clip_number: Option<u32>,
-    /// Whether that clip cuts anything.
+    clip_number: ClipNumber,
+    /// Whether the clip that was said last has regions.
     cuts: bool,
+}
+
+impl Model for Draft {
+    ghost use Rattle.band_writer.specs.Code.Drafts.{DraftValue};
+
+    ghost Value = { DraftValue };
+
+    ghost view = { λ d. record {
+      list = d.list;
+      needs = d.needs;
+      told = record { ink = d.ink; number = d.clip_number; cuts = d.cuts };
+    } };
 }
 
 impl Draft {
     /// A list without commands: its ink is gray 0, and its clip cuts nothing.
     pub fn new(alloc: Global) -> Self
-        ensures list { IsDraft empty_list result }
-        ensures needs { result.needs.items ≡ [] }
+        ensures { result ≡ empty_draft }
     {
         Draft {
-            bytes: Vec::new(alloc),
-            needs: Vec::new(alloc),
+            list: BandList::new(alloc),
+            needs: Needs::new(alloc),
             ink: Ink::Plain(Code::gray(0)),
-            clip_number: None,
+            clip_number: ClipNumber::none(),
             cuts: false,
         }
     }
 
-    /// Adds a mark: its ink and its clip where they change, and the command that paints it.
+    /// Adds a mark: its ink and its clip where they change, and the command that paints it, which is
+    /// spelled already.
+    #[tactic(auto, unfolding(crate::specs::Code::Drafts::draft_after))]
     pub fn add(&mut self, mark: &Mark, painted: &[u8]) -> Mem<()>
-        ensures list { (list : ListValue) → IsDraft list self.old →
-            painted.now ≡ cmd_bytes (paint_cmd list.place mark.now mark.now.paint) →
-            IsCmd (paint_cmd list.place mark.now mark.now.paint) → OnOk result (AddsMark list mark.now self.new) }
-        ensures needs { OnOk result
-            (self.new.needs.items ≡ needs_after self.old.needs.items (mark_source mark.now)) }
+        requires { IsSpelling painted.now }
+        ensures value { OnOk result (self.new ≡ draft_after mark.now painted.now self.old) }
+        ensures commands { OnOk result (AllByRecursion IsCmd (change_cmds self.old.told mark.now)) }
     {
-        match &mark.paint {
-            Paint::Flat(ink) => self.say_ink(*ink)?,
-            Paint::Image(_) => {}
-            Paint::Mask(_, ink) => self.say_ink(*ink)?,
-        }
+        self.say_ink(ink_of(mark))?;
         self.say_clip(mark)?;
-        self.bytes.extend_from_slice(painted)?;
-        self.need(source_of(mark))
+        self.list.put(painted)?;
+        self.needs.add(source_of(mark))
     }
 
-    /// Says an ink, unless the list said it last.
-    fn say_ink(&mut self, ink: Ink) -> Mem<()>
-        ensures list { (list : ListValue) → IsDraft list self.old → OnOk result (AddsInk list ink self.new) }
-        ensures needs { self.new.needs.items ≡ self.old.needs.items }
+    /// Says an ink, if one is needed, unless the list said it last.
+    fn say_ink(&mut self, ink: Option<Ink>) -> Mem<()>
+        ensures value { OnOk result (self.new ≡ record self.old {
+          list = self.old.list ++ spelled (ink_cmds self.old.told.ink ink);
+          told = with_ink self.old.told ink;
+        }) }
+        ensures commands { OnOk result (AllByRecursion IsCmd (ink_cmds self.old.told.ink ink)) }
     {
-        if ink != self.ink {
-            put_flat(&mut self.bytes, ink)?;
-            self.ink = ink;
+        let Some(ink) = ink else {
+            return Ok(());
+        };
+        if !is_same_ink(self.ink, ink) {
+            self.list.put_ink(ink)?;
         }
+        self.ink = ink;
         Ok(())
     }
 
     /// Says the clip of a mark, unless the list said it last.
     fn say_clip(&mut self, mark: &Mark) -> Mem<()>
-        ensures list { (list : ListValue) → IsDraft list self.old → OnOk result (AddsClip list mark.now self.new) }
-        ensures needs { self.new.needs.items ≡ self.old.needs.items }
+        ensures value { OnOk result (self.new ≡ record self.old {
+          list = self.old.list ++ spelled (clip_cmds self.old.told mark.now);
+          told = with_clip self.old.told mark.now;
+        }) }
+        ensures commands { OnOk result (AllByRecursion IsCmd (clip_cmds self.old.told mark.now)) }
     {
         if self.is_clip_said(mark) {
             return Ok(());
         }
-        put_clip(&mut self.bytes, &mark.clip)?;
-        self.clip_number = number_of(mark);
-        self.cuts = !mark.clip.items().is_empty();
+        self.list.put_clip(&mark.clip)?;
+        self.clip_number = mark.clip_number;
+        self.cuts = has_regions(mark);
         Ok(())
     }
 
     /// Whether the clip of a mark was said last: neither cuts anything, or they have one number.
     fn is_clip_said(&self, mark: &Mark) -> bool
-        ensures { (list : ListValue) → IsDraft list self.now → result ≡ is_clip_told list.told mark.now }
+        ensures { result ≡ is_clip_told self.now.told mark.now }
     {
-        if !self.cuts && mark.clip.items().is_empty() {
+        if !self.cuts && !has_regions(mark) {
             return true;
         }
-        match (self.clip_number, number_of(mark)) {
+        match (self.clip_number.get(), mark.clip_number.get()) {
             (Some(said), Some(number)) => said == number,
             _ => false,
         }
     }
 
-    /// Adds a source to the needs, unless it is the last of them.
-    fn need(&mut self, source: Option<u32>) -> Mem<()>
-        ensures list { (list : ListValue) → IsDraft list self.old → IsDraft list self.new }
-        ensures needs { OnOk result (self.new.needs.items ≡ needs_after self.old.needs.items source) }
+    /// The list and the needs.
+    pub fn into_parts(self) -> (BandList, Needs)
+        ensures list { result.0 ≡ self.list }
+        ensures needs { result.1 ≡ self.needs }
     {
-        let Some(source) = source else {
-            return Ok(());
-        };
-        if self.needs.last() != Some(&source) {
-            self.needs.push(source)?;
-        }
-        Ok(())
+        (self.list, self.needs)
     }
 }
 
-/// The number of a mark's clip, if it has one.
-fn number_of(mark: &Mark) -> Option<u32>
-    ensures { result ≡ mark.now.clip_number }
+/// Whether two inks are one.
+fn is_same_ink(a: Ink, b: Ink) -> bool
+    ensures { result ≡ same_ink a b }
 {
-    mark.clip_number
+    match (a, b) {
+        (Ink::Plain(a), Ink::Plain(b)) => is_same_code(a, b),
+        (Ink::Plain(_), Ink::Linked { .. }) => false,
+        (Ink::Linked { .. }, Ink::Plain(_)) => false,
+        (Ink::Linked { source: first, code: a }, Ink::Linked { source: second, code: b }) => {
+            first == second && is_same_code(a, b)
+        }
+    }
+}
+
+fn is_same_code(a: Code, b: Code) -> bool
+    ensures { result ≡ same_code a b }
+{
+    a.n == b.n && a.c == b.c
+}
+
+/// Whether the clip of a mark has regions.
+fn has_regions(mark: &Mark) -> bool
+    ensures { result ≡ has_regions mark.now.clip }
+{
+    !mark.clip.items().is_empty()
+}
+
+/// The ink that a mark needs, if it needs one.
+fn ink_of(mark: &Mark) -> Option<Ink>
+    ensures { result ≡ needed_ink mark.now.paint }
+{
+    match &mark.paint {
+        Paint::Flat(ink) => Some(*ink),
+        Paint::Image(_) => None,
+        Paint::Mask(_, ink) => Some(*ink),
+    }
 }
 
 /// The source by which a mark's colours go, if it has one.
@@ -124,13 +167,13 @@ fn source_of(mark: &Mark) -> Option<u32>
     ensures { result ≡ mark_source mark.now }
 {
     match &mark.paint {
-        Paint::Flat(ink) => ink_source(*ink),
+        Paint::Flat(ink) => source_of_ink(*ink),
         Paint::Image(image) => image.source,
-        Paint::Mask(_, ink) => ink_source(*ink),
+        Paint::Mask(_, ink) => source_of_ink(*ink),
     }
 }
 
-fn ink_source(ink: Ink) -> Option<u32>
+fn source_of_ink(ink: Ink) -> Option<u32>
     ensures { result ≡ ink_source ink }
 {
     match ink {

@@ -1,16 +1,20 @@
 //! A page split into bands: for each band a list of commands, as bytes, and the sources that it needs.
 //!
-//! Proved against `specs/Bands.antt`, which says which marks a band holds, `Listing.antt`, which has
-//! the commands of a list, and `Parts.antt`. Start with `split.rt`, then `draft.rt`.
+//! Proved against `specs/Bands.antt`, which says which marks a band holds, `Listing.antt`, which has the
+//! commands of a list, and `Said.antt`, which has what they say. Start with `split.rt`, then `draft.rt`.
 //! Rows and columns count dots.
 #![tactic(auto)]
 
 mod draft;
+mod laws;
 mod list;
+mod lists;
 mod needs;
 mod parts;
 mod split;
 
+pub use laws::{lists_paint_the_page, lists_say_their_marks, marks_left_out_cover_nothing};
 pub use list::BandList;
+pub use lists::BandLists;
 pub use parts::{Images, PageParts};
-pub use split::{BandLists, split};
+pub use split::split;

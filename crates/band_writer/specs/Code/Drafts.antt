@@ -1,73 +1,71 @@
 -- The list of a band while it is written. Own rule: words of the code alone.
-use Rattle.std.specs.Prelude.{◌≡◌, ℕ, ◌+◌, ◌<◌, ◌≤◌, ◌==◌, Bool, false, List, [], ◌∷◌, ◌++◌, length, take, slice_get, Option, Some, None}
-use Rattle.std.specs.Prelude.{if◌then◌else◌}
-use Rattle.page_model.specs.declared.mark.Ink.{Ink}
+use Rattle.std.specs.Prelude.{◌≡◌, ℕ, ◌<◌, ◌==◌, Bool, true, false, List, [], ◌∷◌, ◌++◌, length, slice_index_or, Option}
+use Rattle.std.specs.Prelude.{Some, None, if◌then◌else◌}
+use Rattle.std.specs.List.{filter, AllByRecursion}
 use Rattle.page_model.specs.Marking.{MarkValue}
-use Rattle.list_codec.specs.Command.{CmdValue}
-use Rattle.band_writer.specs.Bands.{meets, band_marks, needs_of, paint_images}
-use Rattle.band_writer.specs.Listing.{Told, ListValue, opening, SaysInk, SaysMark, clip_cmds, told_after, TakesAll}
-use Rattle.band_writer.specs.Parts.{SpellsAll}
-use Rattle.band_writer.specs.declared.draft.Draft.{Draft}
+use Rattle.page_model.specs.Pages.{band_count}
+use Rattle.list_codec.specs.Command.{IsCmd}
+use Rattle.band_writer.specs.Bands.{PlacedMark, held_marks, needs_of, mark_source, meets, images_of}
+use Rattle.band_writer.specs.Listing.{Told, opening, change_cmds, told_after, list_cmds, spelled}
+use Rattle.band_writer.specs.Parts.{IsSuitedMark}
+use Rattle.band_writer.specs.declared.split.Work.{Work}
 
--- a draft that has said and spelled what a list under way has
-pub record IsDraft (list : ListValue) (draft : Draft) : Type 0 where
-  pub ink : draft.ink ≡ list.told.ink
-  pub number : draft.clip_number ≡ list.told.number
-  pub cuts : draft.cuts ≡ list.told.cuts
-  pub bytes : SpellsAll draft.bytes.items list.cmds
+-- a list and its needs so far, and what the list said
+pub record DraftValue : Type 0 where
+  pub list : List ℕ
+  pub needs : List ℕ
+  pub told : Told
 
--- a list under way without marks
-abbrev pub empty_list : ListValue
-empty_list = record { told = opening; place = 0; cmds = [] }
+-- a draft without commands
+abbrev pub empty_draft : DraftValue
+empty_draft = record { list = []; needs = []; told = opening }
 
--- a list under way with one more mark
-abbrev pub with_mark : ListValue → MarkValue → List CmdValue → ListValue
-with_mark list mark cmds = record {
-  told = told_after list.told mark;
-  place = list.place + length (paint_images mark.paint);
-  cmds = list.cmds ++ cmds;
-}
-
--- the draft says a mark now
-pub record AddsMark (list : ListValue) (mark : MarkValue) (draft : Draft) : Type 0 where
-  pub cmds : List CmdValue
-  pub says : SaysMark list.told list.place mark cmds
-  pub is : IsDraft (with_mark list mark cmds) draft
-
--- the draft says an ink now
-pub record AddsInk (list : ListValue) (ink : Ink) (draft : Draft) : Type 0 where
-  pub cmds : List CmdValue
-  pub says : SaysInk list.told.ink (Some ink) cmds
-  pub is : IsDraft (record list { told = record list.told { ink = ink }; cmds = list.cmds ++ cmds }) draft
-
--- the draft says the clip of a mark now
-abbrev pub AddsClip : ListValue → MarkValue → Draft → Type 0
-AddsClip list mark draft =
-    IsDraft (record {
-      told = record (told_after list.told mark) { ink = list.told.ink };
-      place = list.place;
-      cmds = list.cmds ++ clip_cmds list.told mark;
-    }) draft
-
--- the last of some numbers
-abbrev pub last_of : List ℕ → Option ℕ
-last_of [] = None
-last_of (n ∷ []) = Some n
-last_of (n ∷ m ∷ ns) = last_of (m ∷ ns)
-
--- whether a source is the last need
-abbrev pub is_last : Option ℕ → ℕ → Bool
-is_last None source = false
-is_last (Some n) source = n == source
+-- whether a source is the last of some
+abbrev pub is_last : List ℕ → ℕ → Bool
+is_last [] source = false
+is_last (n ∷ []) source = source == n
+is_last (n ∷ m ∷ ns) source = is_last (m ∷ ns) source
 
 -- the needs after one more source, if there is one
 abbrev pub needs_after : List ℕ → Option ℕ → List ℕ
 needs_after needs None = needs
-needs_after needs (Some source) = if is_last (last_of needs) source then needs else needs ++ source ∷ []
+needs_after needs (Some source) = if is_last needs source then needs else needs ++ source ∷ []
 
--- the drafts of all bands, after some of the page's marks
-pub record AreDrafts (height band_rows : ℕ) (marks : List MarkValue) (drafts : List Draft) : Type 0 where
-  pub lists : (band : ℕ) (draft : Draft) → slice_get drafts band ≡ Some draft
-      → (list : ListValue) × TakesAll (meets height band_rows band) marks empty_list list × IsDraft list draft
-  pub needs : (band : ℕ) (draft : Draft) → slice_get drafts band ≡ Some draft
-      → draft.needs.items ≡ needs_of (band_marks height band_rows band marks)
+-- a draft after one more mark, whose painting is spelled so
+unfoldable pub draft_after : MarkValue → List ℕ → DraftValue → DraftValue
+draft_after mark painted draft = record {
+  list = draft.list ++ (spelled (change_cmds draft.told mark) ++ painted);
+  needs = needs_after draft.needs (mark_source mark);
+  told = told_after draft.told mark;
+}
+
+-- what is told after marks
+unfoldable pub told_by : Told → List PlacedMark → Told
+told_by told [] = told
+told_by told (placed ∷ rest) = told_by (told_after told placed.mark) rest
+
+-- the draft of a band that holds the marks that pass a test, after some of the page's marks
+pub record IsDraft (holds : MarkValue → Bool) (marks : List MarkValue) (draft : DraftValue) : Type 0 where
+  pub list : draft.list ≡ spelled (list_cmds opening (held_marks holds marks))
+  pub commands : AllByRecursion IsCmd (list_cmds opening (held_marks holds marks))
+  pub needs : draft.needs ≡ needs_of (filter holds marks)
+  pub told : draft.told ≡ told_by opening (held_marks holds marks)
+
+-- a mark was added to the drafts of the bands that pass a test, and the others stay
+pub record IsAdded (holds : ℕ → Bool) (mark : MarkValue) (painted : List ℕ) (old new : List DraftValue) : Type 0 where
+  pub count : length new ≡ length old
+  pub held : (band : ℕ) (d : DraftValue) → band < length old → holds band ≡ true
+      → slice_index_or new band d ≡ draft_after mark painted (slice_index_or old band d)
+  pub commands : (band : ℕ) (d : DraftValue) → band < length old → holds band ≡ true
+      → AllByRecursion IsCmd (change_cmds (slice_index_or old band d).told mark)
+  pub left : (band : ℕ) (d : DraftValue) → holds band ≡ false → slice_index_or new band d ≡ slice_index_or old band d
+
+-- a page of so many rows after some of its marks, on its way into bands of so many rows
+pub record IsUnderWay (rows band_rows : ℕ) (marks : List MarkValue) (work : Work) : Type 0 where
+  pub page : work.height ≡ rows
+  pub band : work.band ≡ band_rows
+  pub count : length work.drafts.items ≡ band_count rows band_rows
+  pub drafts : (band : ℕ) (d : DraftValue) → band < length work.drafts.items
+      → IsDraft (meets rows band_rows band) marks (slice_index_or work.drafts.items band d)
+  pub images : work.images ≡ images_of marks
+  pub suited : AllByRecursion IsSuitedMark marks

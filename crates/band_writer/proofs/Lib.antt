@@ -1,0 +1,4 @@
+pub mod Bands
+pub mod Needs
+pub mod Lists
+pub mod Drafts
