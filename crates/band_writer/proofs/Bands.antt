@@ -58,16 +58,16 @@ meets_by height rows band row mark above below page reached =
 pub bands_met : (mark : MarkValue) (height rows first end band : ℕ) → 0 < rows → IsReach mark height first end
     → first < end → meets height rows band mark ≡ (leb (first / rows) band && ltb band ((end - 1) / rows + 1))
 bands_met mark height rows first end band some reach more = elim (cases_Bool (meets height rows band mark)) [
-  | inl yes ↦
-      let m = some_row height rows band mark yes in
+  | inl met ↦
+      let m = some_row height rows band mark met in
       let within = (reach.rows m.row m.page).0 m.reached in
       let low : first / rows < band + 1 =
           (div-lt_iff_lt-mul {k = rows} {x = first} {y = band + 1} some).1 (omega (arith, within.0, m.below)) in
       let high : band ≤ (end - 1) / rows =
           (le-div_iff_mul-le {k = rows} {x = band} {y = end - 1} some).1 (omega (arith, within.1, m.above)) in
-      yes ∙ sym (and_from _ _ (le-leb (first / rows) band (omega (arith, low)))
+      met ∙ sym (and_from _ _ (le-leb (first / rows) band (omega (arith, low)))
       (lt-ltb band ((end - 1) / rows + 1) (omega (arith, high))))
-  | inr no ↦ no ∙ sym (false_from_ne_true _ (λ both.
+  | inr missed ↦ missed ∙ sym (false_from_ne_true _ (λ both.
       let parts = and_parts (leb (first / rows) band) (ltb band ((end - 1) / rows + 1)) both in
       let low_band : first / rows ≤ band = leb-true (first / rows) band parts.0 in
       let high_band : band < (end - 1) / rows + 1 = ltb-true band ((end - 1) / rows + 1) parts.1 in
@@ -75,7 +75,7 @@ bands_met mark height rows first end band some reach more = elim (cases_Bool (me
           (div-lt_iff_lt-mul {k = rows} {x = first} {y = band + 1} some).0 (omega (arith, low_band)) in
       let high : band * rows ≤ end - 1 =
           (le-div_iff_mul-le {k = rows} {x = band} {y = end - 1} some).0 (omega (arith, high_band)) in
-      both_ways (meets height rows band mark) no (one_meets mark height rows first end band some reach more low high)))
+      both_ways (meets height rows band mark) missed (one_meets mark height rows first end band some reach more low high)))
 ]
   where
     one_meets : (mark : MarkValue) (height rows first end band : ℕ) → 0 < rows → IsReach mark height first end
@@ -97,11 +97,11 @@ bands_met mark height rows first end band some reach more = elim (cases_Bool (me
 pub no_band : (mark : MarkValue) (height rows first end band : ℕ) → IsReach mark height first end → first ≡ end
     → meets height rows band mark ≡ (leb 0 band && ltb band 0)
 no_band mark height rows first end band reach none = elim (cases_Bool (meets height rows band mark)) [
-  | inl yes ↦
-      let m = some_row height rows band mark yes in
+  | inl met ↦
+      let m = some_row height rows band mark met in
       let within = (reach.rows m.row m.page).0 m.reached in
       absurd (omega (arith, none, within.0, within.1))
-  | inr no ↦ no ∙ sym (and_right (leb 0 band) (ltb band 0) (le-ltb band 0 (omega arith)))
+  | inr missed ↦ missed ∙ sym (and_right (leb 0 band) (ltb band 0) (le-ltb band 0 (omega arith)))
 ]
 
 -- the band of a mark's last row is one of the page's

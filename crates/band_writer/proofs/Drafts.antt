@@ -8,16 +8,16 @@ use Rattle.std.proofs.lemmas.List.Elements.{filter-append}
 use Rattle.page_model.specs.Marking.{MarkValue}
 use Rattle.list_codec.specs.Command.{CmdValue, IsCmd}
 use Rattle.list_codec.specs.Spelling.{cmd_bytes}
-use Rattle.band_writer.specs.Bands.{PlacedMark, placed_at, held_marks, images_of, mark_images, needs_of, mark_source}
+use Rattle.band_writer.specs.Bands.{PlacedMark, placed_at, placed_from, held_marks, images_of, mark_images, needs_of, mark_source}
 use Rattle.band_writer.specs.Listing.{opening, change_cmds, painting_cmd, told_after, list_cmds, spelled}
 use Rattle.band_writer.specs.Code.Drafts.{DraftValue, empty_draft, draft_after, needs_after, told_by, IsDraft, IsAdded}
-use Rattle.band_writer.proofs.Needs.{needs_more}
-use Rattle.band_writer.proofs.Lists.{all_joined, spelled_joined, spelled_one, held_more, held_same, cmds_more, told_more}
+use Rattle.band_writer.proofs.Sources.{needs_more}
+use Rattle.band_writer.proofs.Held.{all_joined, spelled_joined, spelled_one, held_more, held_same, cmds_more, told_more}
 
 -- before the first mark
 pub empty_is_draft : (holds : MarkValue → Bool) → IsDraft holds [] empty_draft
-unfolding held_marks list_cmds spelled needs_of told_by
-empty_is_draft holds = ?
+unfolding held_marks placed_from list_cmds spelled needs_of told_by
+empty_is_draft holds = record { list = refl; commands = tt; needs = refl; told = refl }
 
 -- a mark that the band doesn't hold
 pub draft_stays : (holds : MarkValue → Bool) (marks : List MarkValue) (mark : MarkValue) (draft : DraftValue)

@@ -1,4 +1,8 @@
 pub mod Bands
-pub mod Needs
-pub mod Lists
+pub mod Sources
+pub mod Held
 pub mod Drafts
+pub mod Said
+pub mod Painting
+pub mod Marks
+pub mod Working

@@ -78,7 +78,7 @@ impl Draft {
         let Some(ink) = ink else {
             return Ok(());
         };
-        if !is_same_ink(self.ink, ink) {
+        if !is_same_ink(&self.ink, &ink) {
             self.list.put_ink(ink)?;
         }
         self.ink = ink;
@@ -125,21 +125,40 @@ impl Draft {
 }
 
 /// Whether two inks are one.
-fn is_same_ink(a: Ink, b: Ink) -> bool
-    ensures { result ≡ same_ink a b }
+fn is_same_ink(a: &Ink, b: &Ink) -> bool
+    ensures { result ≡ same_ink a.now b.now }
 {
-    match (a, b) {
-        (Ink::Plain(a), Ink::Plain(b)) => is_same_code(a, b),
-        (Ink::Plain(_), Ink::Linked { .. }) => false,
-        (Ink::Linked { .. }, Ink::Plain(_)) => false,
-        (Ink::Linked { source: first, code: a }, Ink::Linked { source: second, code: b }) => {
-            first == second && is_same_code(a, b)
-        }
+    match a {
+        Ink::Plain(code) => is_plain(code, b),
+        Ink::Linked { source, code } => is_linked(*source, code, b),
     }
 }
 
-fn is_same_code(a: Code, b: Code) -> bool
-    ensures { result ≡ same_code a b }
+/// Whether an ink is plain with this code.
+fn is_plain(code: &Code, ink: &Ink) -> bool
+    ensures { result ≡ same_ink (Ink.Plain code.now) ink.now }
+{
+    match ink {
+        Ink::Plain(other) => is_same_code(code, other),
+        Ink::Linked { .. } => false,
+    }
+}
+
+/// Whether an ink goes by this source with this code.
+fn is_linked(source: u32, code: &Code, ink: &Ink) -> bool
+    ensures { result ≡ same_ink (Ink.Linked source code.now) ink.now }
+{
+    match ink {
+        Ink::Plain(_) => false,
+        Ink::Linked {
+            source: other_source,
+            code: other,
+        } => source == *other_source && is_same_code(code, other),
+    }
+}
+
+fn is_same_code(a: &Code, b: &Code) -> bool
+    ensures { result ≡ same_code a.now b.now }
 {
     a.n == b.n && a.c == b.c
 }

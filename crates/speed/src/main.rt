@@ -11,6 +11,7 @@ mod flow;
 mod path;
 mod profiles;
 mod scan;
+mod split;
 mod store;
 mod stroke;
 
@@ -46,22 +47,24 @@ enum Bench {
     Flow,
     Path,
     Scan,
+    Split,
     Store,
     Stroke,
 }
 
-const ALL: [Bench; 8] = [
+const ALL: [Bench; 9] = [
     Bench::Cache,
     Bench::Colour,
     Bench::Fill,
     Bench::Flow,
     Bench::Path,
     Bench::Scan,
+    Bench::Split,
     Bench::Store,
     Bench::Stroke,
 ];
 
-const USAGE: &str = "speed: usage: speed all|cache|colour|fill|flow|path|scan|store|stroke";
+const USAGE: &str = "speed: usage: speed all|cache|colour|fill|flow|path|scan|split|store|stroke";
 
 impl Bench {
     fn of(word: &str) -> Option<Bench> {
@@ -72,6 +75,7 @@ impl Bench {
             "flow" => Some(Bench::Flow),
             "path" => Some(Bench::Path),
             "scan" => Some(Bench::Scan),
+            "split" => Some(Bench::Split),
             "store" => Some(Bench::Store),
             "stroke" => Some(Bench::Stroke),
             _ => None,
@@ -86,6 +90,7 @@ impl Bench {
             Bench::Flow => flow::run(rt, size),
             Bench::Path => path::run(rt, size),
             Bench::Scan => scan::run(rt, size),
+            Bench::Split => split::run(rt, size),
             Bench::Store => store::run(rt, size),
             Bench::Stroke => stroke::run(rt),
         }

@@ -3,12 +3,9 @@ use Rattle.std.specs.Prelude.{◌≡◌, ℕ, ◌<◌, ◌==◌, Bool, true, fal
 use Rattle.std.specs.Prelude.{Some, None, if◌then◌else◌}
 use Rattle.std.specs.List.{filter, AllByRecursion}
 use Rattle.page_model.specs.Marking.{MarkValue}
-use Rattle.page_model.specs.Pages.{band_count}
 use Rattle.list_codec.specs.Command.{IsCmd}
-use Rattle.band_writer.specs.Bands.{PlacedMark, held_marks, needs_of, mark_source, meets, images_of}
+use Rattle.band_writer.specs.Bands.{PlacedMark, held_marks, needs_of, mark_source}
 use Rattle.band_writer.specs.Listing.{Told, opening, change_cmds, told_after, list_cmds, spelled}
-use Rattle.band_writer.specs.Parts.{IsSuitedMark}
-use Rattle.band_writer.specs.declared.split.Work.{Work}
 
 -- a list and its needs so far, and what the list said
 pub record DraftValue : Type 0 where
@@ -59,13 +56,3 @@ pub record IsAdded (holds : ℕ → Bool) (mark : MarkValue) (painted : List ℕ
   pub commands : (band : ℕ) (d : DraftValue) → band < length old → holds band ≡ true
       → AllByRecursion IsCmd (change_cmds (slice_index_or old band d).told mark)
   pub left : (band : ℕ) (d : DraftValue) → holds band ≡ false → slice_index_or new band d ≡ slice_index_or old band d
-
--- a page of so many rows after some of its marks, on its way into bands of so many rows
-pub record IsUnderWay (rows band_rows : ℕ) (marks : List MarkValue) (work : Work) : Type 0 where
-  pub page : work.height ≡ rows
-  pub band : work.band ≡ band_rows
-  pub count : length work.drafts.items ≡ band_count rows band_rows
-  pub drafts : (band : ℕ) (d : DraftValue) → band < length work.drafts.items
-      → IsDraft (meets rows band_rows band) marks (slice_index_or work.drafts.items band d)
-  pub images : work.images ≡ images_of marks
-  pub suited : AllByRecursion IsSuitedMark marks

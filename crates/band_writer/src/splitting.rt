@@ -8,7 +8,8 @@ ghost use Rattle.list_codec.specs.Spelling.{cmd_bytes};
 ghost use Rattle.band_writer.specs.Bands.{meets, mark_images};
 ghost use Rattle.band_writer.specs.Listing.{paint_cmd};
 ghost use Rattle.band_writer.specs.Parts.{IsSplit, IsSpelling, IsSuitedMark};
-ghost use Rattle.band_writer.specs.Code.Drafts.{IsUnderWay, IsAdded, empty_draft};
+ghost use Rattle.band_writer.specs.Code.Drafts.{IsAdded, empty_draft};
+ghost use Rattle.band_writer.specs.Code.Working.{IsUnderWay};
 
 use crate::draft::Draft;
 use crate::lists::BandLists;

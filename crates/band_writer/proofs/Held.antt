@@ -1,6 +1,7 @@
 -- The commands and the bytes of a list after one more mark.
 use Rattle.std.proofs.Common.{◌≡◌, ℕ, ◌+◌, Bool, true, false, List, [], ◌∷◌, ◌++◌, length, refl, sym, ap, ◌∙◌, inl, inr, arith}
-use Rattle.std.proofs.Common.{append_assoc, length-append, subst}
+use Rattle.std.proofs.Common.{append_assoc, length-append, subst, Result, Ok, Err}
+use Rattle.std.specs.Prelude.{OnOk, OnErr}
 use Rattle.std.specs.List.{filter, flat_map, AllByRecursion}
 use Rattle.std.proofs.lemmas.List.{append-nil}
 use Rattle.std.proofs.lemmas.List.Elements.{filter-append}
@@ -105,3 +106,15 @@ pub told_more : (told : Told) (placed : List PlacedMark) (one : PlacedMark)
 unfolding told_by
 told_more told [] one = refl
 told_more told (first ∷ placed) one = told_more (told_after told first.mark) placed one
+
+-- spellings after a command was put or memory ran out
+pub after_put : {A E : Type 0} (result : Result A E) (bytes : List ℕ) (cmd : CmdValue) (new : List ℕ) → AreSpellings bytes
+    → OnOk result (IsCmd cmd) → OnOk result (new ≡ bytes ++ cmd_bytes cmd) → OnErr result (new ≡ bytes)
+    → AreSpellings new
+after_put (Ok done) bytes cmd new are command put same = with_cmd bytes cmd new are command put
+after_put (Err e) bytes cmd new are command put same = subst (λ (b : List ℕ). AreSpellings b) (sym same) are
+
+-- what holds anyway holds after Ok
+pub on_ok : {A E : Type 0} (result : Result A E) (P : Type 0) → P → OnOk result P
+on_ok (Ok done) P h = h
+on_ok (Err e) P h = tt
