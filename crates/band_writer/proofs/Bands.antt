@@ -3,7 +3,7 @@ use Rattle.std.proofs.Common.{◌≡◌, ℕ, ◌+◌, ◌*◌, ◌-◌, ◌/◌
 use Rattle.std.proofs.Common.{refl, subst, inl, inr, arith}
 use Rattle.std.specs.Prelude.{min}
 use Rattle.std.specs.List.{list_any, range_with_len}
-use Rattle.std.proofs.lemmas.Bool.{cases_Bool, and_parts, and_from, and_right, both_ways, false_from_ne_true, leb-true}
+use Rattle.std.proofs.lemmas.Bool.{cases_Bool, and_parts, and_from, and_right, both_ways, false_from_ne_true, leb-true, cases_lt}
 use Rattle.std.proofs.lemmas.Bool.{ltb-true, leb-false, le-leb, lt-ltb, le-ltb}
 use Rattle.std.proofs.lemmas.List.Folds.{Any-from_list_any, list_any_at}
 use Rattle.std.proofs.lemmas.List.FromFn.{length-range_with_len, get_or-range_with_len}
@@ -122,3 +122,18 @@ count_up height rows some =
     let high : (height + rows - 1) / rows < q + 1 =
         (div-lt_iff_lt-mul {k = rows} {x = height + rows - 1} {y = q + 1} some).1 (omega (arith, up.0, some)) in
     omega (arith, low, high)
+
+-- the band of a mark's first row stands before the end of its bands
+pub bands_order : (rows first end : ℕ) → 0 < rows → first < end → first / rows ≤ (end - 1) / rows + 1
+bands_order rows first end some more =
+    let low = div-mul-le_self first rows in
+    let order : first / rows ≤ (end - 1) / rows =
+        (le-div_iff_mul-le {k = rows} {x = first / rows} {y = end - 1} some).1 (omega (arith, low, more)) in
+    omega (arith, order)
+
+-- a reach that isn't empty
+pub some_reach : (mark : MarkValue) (height first end : ℕ) → IsReach mark height first end → (first ≡ end → ⊥) → first < end
+some_reach mark height first end reach other = elim (cases_lt first end) [
+  | inl more ↦ more
+  | inr none ↦ (let both = reach.none none in absurd (other (both.0 ∙ sym both.1)))
+]

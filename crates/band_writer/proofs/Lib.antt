@@ -3,6 +3,7 @@ pub mod Sources
 pub mod Held
 pub mod Drafts
 pub mod Said
+pub mod Saying
 pub mod Painting
 pub mod Marks
 pub mod Working

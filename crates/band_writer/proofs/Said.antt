@@ -34,7 +34,7 @@ code_is a b h =
     ap (λ k. made_code k a.c) n ∙ ap (λ v. made_code b.n v) c
 
 -- inks that are told to be one are one
-ink_is : (a b : Ink) → same_ink a b ≡ true → a ≡ b
+pub ink_is : (a b : Ink) → same_ink a b ≡ true → a ≡ b
 ink_is (Plain a) (Plain b) h = ap (λ c. Plain c) (code_is a b h)
 ink_is (Plain a) (Linked source b) h = absurd (false≢true h)
 ink_is (Linked source a) (Plain b) h = absurd (false≢true h)

@@ -1,13 +1,13 @@
 -- The needs after one more mark.
-use Rattle.std.proofs.Common.{◌≡◌, ℕ, Bool, true, false, cond, eqb, ◌==◌, List, [], ◌∷◌, ◌++◌, Option, Some, None, refl, sym, ap}
+use Rattle.std.proofs.Common.{◌≡◌, ℕ, suc, ◌-◌, length, arith, Bool, true, false, cond, eqb, ◌==◌, List, [], ◌∷◌, ◌++◌, Option, Some, None, refl, sym, ap}
 use Rattle.std.proofs.Common.{◌∙◌, inl, inr}
-use Rattle.std.specs.List.{dedup, dedup_from, filter_map}
-use Rattle.std.proofs.lemmas.Bool.{cases_Bool}
+use Rattle.std.specs.List.{dedup, dedup_from, filter_map, slice_get}
+use Rattle.std.proofs.lemmas.Bool.{cases_Bool, cases_eq, eq-eqb, ne_eqb}
 use Rattle.std.proofs.lemmas.List.{append-nil}
 use Rattle.std.proofs.lemmas.List.Elements.{filter_map-append}
 use Rattle.page_model.specs.Marking.{MarkValue}
 use Rattle.band_writer.specs.Bands.{needs_of, mark_source}
-use Rattle.band_writer.specs.Code.Drafts.{is_last, needs_after}
+use Rattle.band_writer.specs.Code.Drafts.{is_number, is_last, needs_after}
 
 -- a list without neighbours that are one begins with its first item
 pub record BeginsWith (first : ℕ) (all : List ℕ) : Type 0 where
@@ -24,14 +24,28 @@ from_first k (x ∷ xs) = elim (cases_Bool (x == k)) [
 -- an item in front changes neither which is the last nor what is added behind
 front_stays : (k first : ℕ) (rest : List ℕ) (x : ℕ)
     → k ∷ needs_after (first ∷ rest) (Some x) ≡ needs_after (k ∷ first ∷ rest) (Some x)
-front_stays k first rest x = elim (cases_Bool (is_last (first ∷ rest) x)) [
-  | inl last ↦ rw last refl
-  | inr other ↦ rw other refl
+front_stays k first rest x =
+    let n : length (k ∷ first ∷ rest) - 1 ≡ suc (length (first ∷ rest) - 1) = omega arith in
+    let same : is_last (k ∷ first ∷ rest) x ≡ is_last (first ∷ rest) x =
+        ap (λ i. is_number (slice_get (k ∷ first ∷ rest) i) x) n in
+    rw same (over_cond (is_last (first ∷ rest) x) k (first ∷ rest) (first ∷ rest ++ x ∷ []))
+  where
+    over_cond : (b : Bool) (k : ℕ) (xs ys : List ℕ) → k ∷ cond b xs ys ≡ cond b (k ∷ xs) (k ∷ ys)
+    over_cond true k xs ys = refl
+    over_cond false k xs ys = refl
+
+one_more : (a b : Bool) (k x : ℕ) → a ≡ b → cond b (k ∷ []) (k ∷ x ∷ []) ≡ cond a (k ∷ []) (k ∷ x ∷ [])
+one_more a b k x same = ap (λ t. cond t (k ∷ []) (k ∷ x ∷ [])) (sym same)
+
+same_order : (k x : ℕ) → (k == x) ≡ (x == k)
+same_order k x = elim (cases_eq k x) [
+  | inl same ↦ eq-eqb k x same ∙ sym (eq-eqb x k (sym same))
+  | inr other ↦ ne_eqb k x other ∙ sym (ne_eqb x k (λ e. other (sym e)))
 ]
 
 from_more : (k : ℕ) (xs : List ℕ) (x : ℕ)
     → dedup_from ◌==◌ k (xs ++ x ∷ []) ≡ needs_after (dedup_from ◌==◌ k xs) (Some x)
-from_more k [] x = refl
+from_more k [] x = one_more (k == x) (x == k) k x (same_order k x)
 from_more k (y ∷ xs) x = elim (cases_Bool (y == k)) [
   | inl same ↦ rw same (from_more k xs x)
   | inr other ↦

@@ -1,13 +1,13 @@
 //! The list of a band while it is written.
-ghost use Rattle.std.specs.Prelude.{◌≡◌, ◌++◌, OnOk, Option};
+ghost use Rattle.std.specs.Prelude.{◌≡◌, OnOk, Some};
 ghost use Rattle.std.specs.List.{AllByRecursion};
 ghost use Rattle.page_model.specs.Page.{ink_source};
 ghost use Rattle.list_codec.specs.Command.{IsCmd};
 ghost use Rattle.band_writer.specs.Bands.{mark_source};
 ghost use Rattle.band_writer.specs.Listing.{same_ink, same_code, is_clip_told, has_regions, needed_ink, ink_cmds};
-ghost use Rattle.band_writer.specs.Listing.{clip_cmds, change_cmds, with_ink, with_clip, spelled};
+ghost use Rattle.band_writer.specs.Listing.{clip_cmds, change_cmds, with_ink, with_clip};
 ghost use Rattle.band_writer.specs.Parts.{IsSpelling};
-ghost use Rattle.band_writer.specs.Code.Drafts.{empty_draft, draft_after};
+ghost use Rattle.band_writer.specs.Code.Drafts.{empty_draft, draft_after, with_said};
 
 use crate::list::BandList;
 use crate::needs::Needs;
@@ -55,7 +55,6 @@ impl Draft {
 
     /// Adds a mark: its ink and its clip where they change, and the command that paints it, which is
     /// spelled already.
-    #[tactic(auto, unfolding(crate::specs::Code::Drafts::draft_after))]
     pub fn add(&mut self, mark: &Mark, painted: &[u8]) -> Mem<()>
         requires { IsSpelling painted.now }
         ensures value { OnOk result (self.new ≡ draft_after mark.now painted.now self.old) }
@@ -69,28 +68,33 @@ impl Draft {
 
     /// Says an ink, if one is needed, unless the list said it last.
     fn say_ink(&mut self, ink: Option<Ink>) -> Mem<()>
-        ensures value { OnOk result (self.new ≡ record self.old {
-          list = self.old.list ++ spelled (ink_cmds self.old.told.ink ink);
-          told = with_ink self.old.told ink;
-        }) }
+        ensures value { OnOk result
+            (self.new ≡ with_said self.old (ink_cmds self.old.told.ink ink) (with_ink self.old.told ink)) }
         ensures commands { OnOk result (AllByRecursion IsCmd (ink_cmds self.old.told.ink ink)) }
     {
-        let Some(ink) = ink else {
-            return Ok(());
-        };
-        if !is_same_ink(&self.ink, &ink) {
-            self.list.put_ink(ink)?;
+        match ink {
+            Some(ink) => self.say_needed(ink),
+            None => Ok(()),
         }
+    }
+
+    fn say_needed(&mut self, ink: Ink) -> Mem<()>
+        ensures value { OnOk result (self.new
+            ≡ with_said self.old (ink_cmds self.old.told.ink (Some ink)) (with_ink self.old.told (Some ink))) }
+        ensures commands { OnOk result (AllByRecursion IsCmd (ink_cmds self.old.told.ink (Some ink))) }
+    {
+        if is_same_ink(&self.ink, &ink) {
+            return Ok(());
+        }
+        self.list.put_ink(ink)?;
         self.ink = ink;
         Ok(())
     }
 
     /// Says the clip of a mark, unless the list said it last.
     fn say_clip(&mut self, mark: &Mark) -> Mem<()>
-        ensures value { OnOk result (self.new ≡ record self.old {
-          list = self.old.list ++ spelled (clip_cmds self.old.told mark.now);
-          told = with_clip self.old.told mark.now;
-        }) }
+        ensures value { OnOk result
+            (self.new ≡ with_said self.old (clip_cmds self.old.told mark.now) (with_clip self.old.told mark.now)) }
         ensures commands { OnOk result (AllByRecursion IsCmd (clip_cmds self.old.told mark.now)) }
     {
         if self.is_clip_said(mark) {

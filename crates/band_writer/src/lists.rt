@@ -1,6 +1,5 @@
 ghost use Rattle.std.specs.Prelude.{◌≡◌, ◌<◌, ◌^◌, [], IfOk, length, map, slice_index_or};
 ghost use Rattle.band_writer.specs.Code.Drafts.{DraftValue};
-ghost use Rattle.band_writer.specs.Parts.{AreSpellings};
 
 use crate::draft::Draft;
 use crate::list::BandList;
@@ -69,8 +68,7 @@ impl BandLists {
     /// The list of a band.
     pub fn list(&self, band: u32) -> &BandList
         requires { band < length self.now.lists }
-        ensures value { result.now ≡ slice_index_or self.now.lists band [] }
-        ensures spellings { AreSpellings result.now }
+        ensures { result.now ≡ slice_index_or self.now.lists band [] }
     {
         &self.lists[band as usize]
     }

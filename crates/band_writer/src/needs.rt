@@ -54,5 +54,8 @@ impl Needs {
 fn is_last(sources: &[u32], source: u32) -> bool
     ensures { result ≡ is_last sources.now source }
 {
-    sources.last() == Some(&source)
+    match sources.last() {
+        Some(last) => *last == source,
+        None => false,
+    }
 }

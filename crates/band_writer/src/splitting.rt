@@ -90,7 +90,7 @@ fn empty_drafts(alloc: Global, count: u32) -> Mem<Vec<Draft>>
     ensures { IfOk result (λ drafts. drafts.items ≡ replicate count empty_draft) }
 {
     let mut drafts = Vec::with_capacity(alloc, count as usize)?;
-    for _ in 0..count {
+    for _band in 0..count {
         drafts.push(Draft::new(alloc))?;
     }
     Ok(drafts)
@@ -101,6 +101,7 @@ fn spell(to: &mut Vec<u8>, mark: &Mark, place: u32) -> Mem<()>
     requires { to.old.items ≡ [] }
     ensures ok { OnOk result (to.new.items ≡ cmd_bytes (paint_cmd place mark.now mark.now.paint)) }
     ensures command { OnOk result (IsCmd (paint_cmd place mark.now mark.now.paint)) }
+    ensures suited { IsSuitedMark mark.now }
 {
     match &mark.paint {
         Paint::Flat(_) => put_draw(to, mark.rule, &mark.shapes),
@@ -112,9 +113,9 @@ fn spell(to: &mut Vec<u8>, mark: &Mark, place: u32) -> Mem<()>
 /// The bands that a mark meets, on a page of so many rows: from the first up to and without the second.
 fn bands_of(mark: &Mark, height: u32, band_rows: u32) -> (u32, u32)
     requires { 1 ≤ band_rows }
+    ensures order { result.0 ≤ result.1 }
     ensures within { result.1 ≤ band_count height band_rows }
     ensures bands { (band : ℕ) → meets height band_rows band mark.now ≡ (nat_le result.0 band && nat_lt band result.1) }
-    ensures suited { IsSuitedMark mark.now }
 {
     let (first, end) = reach(mark, height);
     if first == end {
@@ -125,6 +126,7 @@ fn bands_of(mark: &Mark, height: u32, band_rows: u32) -> (u32, u32)
 
 /// Adds a mark to the drafts of some bands.
 fn add_to(drafts: &mut Vec<Draft>, mark: &Mark, painted: &[u8], from: u32, to: u32) -> Mem<()>
+    requires order { from ≤ to }
     requires within { to ≤ length drafts.old.items }
     requires painted { IsSpelling painted.now }
     ensures { OnOk result

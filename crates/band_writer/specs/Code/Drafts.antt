@@ -1,9 +1,9 @@
 -- The list of a band while it is written. Own rule: words of the code alone.
-use Rattle.std.specs.Prelude.{◌≡◌, ℕ, ◌<◌, ◌==◌, Bool, true, false, List, [], ◌∷◌, ◌++◌, length, slice_index_or, Option}
+use Rattle.std.specs.Prelude.{◌≡◌, ℕ, ◌<◌, ◌-◌, ◌==◌, Bool, true, false, List, [], ◌∷◌, ◌++◌, length, slice_index_or, Option}
 use Rattle.std.specs.Prelude.{Some, None, if◌then◌else◌}
-use Rattle.std.specs.List.{filter, AllByRecursion}
+use Rattle.std.specs.List.{filter, slice_get, AllByRecursion}
 use Rattle.page_model.specs.Marking.{MarkValue}
-use Rattle.list_codec.specs.Command.{IsCmd}
+use Rattle.list_codec.specs.Command.{CmdValue, IsCmd}
 use Rattle.band_writer.specs.Bands.{PlacedMark, held_marks, needs_of, mark_source}
 use Rattle.band_writer.specs.Listing.{Told, opening, change_cmds, told_after, list_cmds, spelled}
 
@@ -17,11 +17,18 @@ pub record DraftValue : Type 0 where
 abbrev pub empty_draft : DraftValue
 empty_draft = record { list = []; needs = []; told = opening }
 
+-- a draft whose list says some more commands
+abbrev pub with_said : DraftValue → List CmdValue → Told → DraftValue
+with_said draft cmds told = record { list = draft.list ++ spelled cmds; needs = draft.needs; told = told }
+
+-- whether a number is there and this one
+abbrev pub is_number : Option ℕ → ℕ → Bool
+is_number None source = false
+is_number (Some n) source = n == source
+
 -- whether a source is the last of some
 abbrev pub is_last : List ℕ → ℕ → Bool
-is_last [] source = false
-is_last (n ∷ []) source = source == n
-is_last (n ∷ m ∷ ns) source = is_last (m ∷ ns) source
+is_last needs source = is_number (slice_get needs (length needs - 1)) source
 
 -- the needs after one more source, if there is one
 abbrev pub needs_after : List ℕ → Option ℕ → List ℕ

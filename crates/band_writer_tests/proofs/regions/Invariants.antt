@@ -2,5 +2,5 @@ use Rattle.std.proofs.Common.{◌≡◌, replicate}
 use Rattle.band_writer_tests.specs.Numbered.{nothing}
 use Rattle.band_writer_tests.proofs.regions.Given as goal
 
-abbrev pub invariant-loop-_done : goal.invariant-loop-_done
-invariant-loop-_done l = l.clip ≡ replicate l._done nothing
+abbrev pub invariant-loop-done : goal.invariant-loop-done
+invariant-loop-done l = l.clip ≡ replicate l._done nothing
