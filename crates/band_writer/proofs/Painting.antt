@@ -51,9 +51,13 @@ same_painted : {X Y : Type 0} (p q : X → Bool) (f : X → Y) (g : X → X) (Su
 unfolding painted
 same_painted p q f g Suits ground [] covers looks left suited = refl
 same_painted p q f g Suits ground (x ∷ xs) covers looks left suited = elim (cases_Bool (q x)) [
-  | inl held ↦ rw (held, covers x suited.0, looks x)
-    (same_painted p q f g Suits (cond (p x) (f x) ground) xs covers looks left suited.1)
-  | inr out ↦ rw (out, left x out) (same_painted p q f g Suits ground xs covers looks left suited.1)
+  | inl held ↦ rw held (
+    ap (λ b. painted p f (cond b (f (g x)) ground) (map g (filter q xs))) (covers x suited.0)
+    ∙ ap (λ y. painted p f (cond (p x) y ground) (map g (filter q xs))) (looks x)
+    ∙ same_painted p q f g Suits (cond (p x) (f x) ground) xs covers looks left suited.1)
+  | inr out ↦ rw out (
+    same_painted p q f g Suits ground xs covers looks left suited.1
+    ∙ ap (λ b. painted p f (cond b (f x) ground) xs) (sym (left x out)))
 ]
 
 made_mark : Rule → List Shape → List RegionValue → Option ℕ → PaintValue → MarkValue

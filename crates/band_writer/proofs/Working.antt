@@ -1,15 +1,16 @@
 -- The drafts of all bands, mark by mark, and the page at the end.
 use Rattle.std.proofs.Common.{◌≡◌, ℕ, zero, suc, ◌+◌, ◌<◌, ◌≤◌, Bool, true, false, leb, ltb, ◌&&◌, ◌⊎◌, List, [], ◌∷◌, ◌++◌, length}
-use Rattle.std.proofs.Common.{get_or, replicate, refl, sym, ap, ◌∙◌, subst, inl, inr, map, arith, length-append}
-use Rattle.std.specs.Prelude.{slice_set}
+use Rattle.std.proofs.Common.{get_or, take, replicate, Result, Ok, Err, refl, sym, ap, ◌∙◌, subst, inl, inr, map, arith, length-append}
+use Rattle.std.specs.Prelude.{slice_set, OnOk, IfOk}
 use Rattle.std.specs.List.{flat_map, range_with_len, AllByRecursion}
 use Rattle.std.proofs.lemmas.Bool.{cases_Bool, and_parts, and_from, and_left, and_right, leb-true, ltb-true, le-leb, lt-ltb}
 use Rattle.std.proofs.lemmas.Bool.{le-ltb, lt-leb, false≢true, false_from_ne_true, cases_order}
 use Rattle.std.proofs.lemmas.List.{append-nil, get_or-replicate, length-replicate, get_or-set_same, get_or-set_other}
-use Rattle.std.proofs.lemmas.List.{length-set, length-map, get_or-map, get_or_default}
+use Rattle.std.proofs.lemmas.List.{length-set, length-map, get_or-map, get_or_default, take_more, take_all}
 use Rattle.std.proofs.lemmas.List.Concat.{flat_map-append}
 use Rattle.std.proofs.lemmas.List.FromFn.{fill_by_all}
 use Rattle.page_model.specs.Marking.{MarkValue, PaintValue, Flatly, Pictured, Masked}
+use Rattle.page_model.specs.Image.{ImageValue}
 use Rattle.page_model.specs.Page.{PageValue}
 use Rattle.page_model.specs.Pages.{band_count}
 use Rattle.page_model.specs.declared.page.Depth.TheVariants.{Eight}
@@ -17,9 +18,11 @@ use Rattle.list_codec.specs.Command.{IsCmd}
 use Rattle.list_codec.specs.Spelling.{cmd_bytes}
 use Rattle.band_writer.specs.Bands.{placed_at, images_of, mark_images, paint_images, meets}
 use Rattle.band_writer.specs.Listing.{change_cmds, painting_cmd, spelled}
-use Rattle.band_writer.specs.Parts.{BandListsValue, IsSplit, IsSuitedMark, band_cmds, band_needs}
+use Rattle.band_writer.specs.Parts.{PagePartsValue, BandListsValue, IsSplit, IsSuitedMark, band_cmds, band_needs}
 use Rattle.band_writer.specs.Code.Drafts.{DraftValue, empty_draft, draft_after, IsDraft, IsAdded}
-use Rattle.band_writer.specs.Code.Working.{AreDrafts}
+use Rattle.band_writer.specs.Code.Working.{AreDrafts, IsUnderWay}
+use Rattle.band_writer.specs.declared.splitting.Work.{Work}
+use Rattle.band_writer.proofs.Held.{all_joined}
 use Rattle.band_writer.proofs.Drafts.{empty_is_draft, draft_stays, draft_goes_on}
 
 -- whether a number is one of from up to and without to
@@ -178,3 +181,62 @@ is_split page band_rows drafts split are parts lists needs suited =
       commands = λ band inside. (are.each band empty_draft (omega (arith, inside, are.count))).commands;
       suited = suited;
     }
+
+-- no marks have no images
+pub no_images : images_of [] ≡ []
+unfolding images_of
+no_images = refl
+
+-- the page after one more mark
+pub work_goes_on : {A E : Type 0} (result : Result A E) (rows band_rows from to place : ℕ) (marks : List MarkValue)
+    (mark : MarkValue) (painted : List ℕ) (old new : Work) → IsUnderWay rows band_rows marks old
+    → new.height ≡ old.height → new.band ≡ old.band
+    → ((band : ℕ) → meets old.height old.band band mark ≡ is_from_to from to band)
+    → IsAdded (is_from_to from to) mark painted old.drafts.items new.drafts.items
+    → IsCmd (painting_cmd (placed_at place mark)) → painted ≡ cmd_bytes (painting_cmd (placed_at place mark))
+    → place ≡ length old.images → OnOk result (new.images ≡ old.images ++ mark_images mark) → IsSuitedMark mark
+    → OnOk result (IsUnderWay rows band_rows (marks ++ mark ∷ []) new)
+work_goes_on (Err e) rows band_rows from to place marks mark painted old new so_far height band bands added command
+    spelling is images suited = tt
+work_goes_on (Ok done) rows band_rows from to place marks mark painted old new so_far height band bands added command
+    spelling is images suited =
+    let at : place ≡ length (images_of marks) = is ∙ ap (λ (all : List ImageValue). length all) so_far.images in
+    record {
+      page = height ∙ so_far.page;
+      band = band ∙ so_far.band;
+      drafts = drafts_go_on rows band_rows from to marks mark painted old.drafts.items new.drafts.items so_far.drafts
+          (λ k. sym (ap (λ r. meets r old.band k mark) so_far.page ∙ ap (λ b. meets rows b k mark) so_far.band) ∙ bands k)
+          added (subst (λ n. IsCmd (painting_cmd (placed_at n mark))) at command)
+          (spelling ∙ ap (λ n. cmd_bytes (painting_cmd (placed_at n mark))) at);
+      images = images ∙ ap (λ (all : List ImageValue). all ++ mark_images mark) so_far.images
+          ∙ sym (images_more marks mark);
+      suited = all_joined IsSuitedMark marks (mark ∷ []) so_far.suited (suited, tt);
+    }
+
+-- the marks up to one that was read are those before it and that one
+pub mark_taken : (items marks : List MarkValue) (i : ℕ) (mark : MarkValue) → items ≡ marks → i < length items
+    → mark ≡ get_or items i mark → take (i + 1) marks ≡ take i marks ++ mark ∷ []
+mark_taken items marks i mark same inside is =
+    let here : i < length marks = subst (λ (ms : List MarkValue). i < length ms) same inside in
+    let at : get_or marks i mark ≡ mark = sym (is ∙ ap (λ (ms : List MarkValue). get_or ms i mark) same) in
+    take_more marks i mark here ∙ ap (λ (m : MarkValue). take i marks ++ m ∷ []) at
+
+-- what the bands of a page share, with some images
+abbrev pub parts_of : PageValue → ℕ → List ImageValue → PagePartsValue
+parts_of page band_rows images =
+    record { width = page.width; height = page.height; band = band_rows; depth = Eight; images = images }
+
+-- after the last mark
+pub split_at_end : {E : Type 0} (result : Result BandListsValue E) (page : PageValue) (band_rows i : ℕ) (work : Work)
+    (parts : PagePartsValue) → IsUnderWay page.height band_rows (take i page.marks) work → length page.marks ≤ i
+    → parts ≡ parts_of page band_rows work.images → IfOk result (λ split. split.parts ≡ parts)
+    → IfOk result (λ split. split.lists ≡ map (λ (draft : DraftValue). draft.list) work.drafts.items)
+    → IfOk result (λ split. split.needs ≡ map (λ (draft : DraftValue). draft.needs) work.drafts.items)
+    → IfOk result (IsSplit page band_rows)
+split_at_end (Err e) page band_rows i work parts so_far end are shared lists needs = tt
+split_at_end (Ok split) page band_rows i work parts so_far end are shared lists needs =
+    let all : take i page.marks ≡ page.marks = take_all i page.marks end in
+    let whole : IsUnderWay page.height band_rows page.marks work =
+        subst (λ (ms : List MarkValue). IsUnderWay page.height band_rows ms work) all so_far in
+    is_split page band_rows work.drafts.items split whole.drafts
+    (shared ∙ are ∙ ap (λ (all : List ImageValue). parts_of page band_rows all) whole.images) lists needs whole.suited

@@ -72,10 +72,10 @@ impl Draft {
             (self.new ≡ with_said self.old (ink_cmds self.old.told.ink ink) (with_ink self.old.told ink)) }
         ensures commands { OnOk result (AllByRecursion IsCmd (ink_cmds self.old.told.ink ink)) }
     {
-        match ink {
-            Some(ink) => self.say_needed(ink),
-            None => Ok(()),
-        }
+        let Some(ink) = ink else {
+            return Ok(());
+        };
+        self.say_needed(ink)
     }
 
     fn say_needed(&mut self, ink: Ink) -> Mem<()>
