@@ -1,4 +1,4 @@
-use Rattle.std.proofs.Common.{◌≤◌, List, length, take, sym, ap, subst, arith}
+use Rattle.std.proofs.Common.{◌≤◌, List, length, take, sym, ap, ◌∙◌, subst, arith}
 use Rattle.std.proofs.lemmas.List.{length-take}
 use Rattle.page_model.specs.Image.{ImageValue}
 use Rattle.page_model.specs.Marking.{MarkValue}
@@ -19,13 +19,15 @@ pub loop-mark-preserved : goal.loop-mark-preserved
 loop-mark-preserved c =
     subst (λ (marks : List MarkValue). IsUnderWay c.args.page.now.height c.args.height marks c.add.new.self)
     (sym (mark_taken c.items-mark-items.result.now c.args.page.now.marks c.loop-mark.mark-index c.mark-item.result
-    c.items-mark-items.ensures c.loop-mark-test.true c.mark-item.is))
+    (c.items-mark-items.ensures ∙ ap (λ (p : PageValue). p.marks) c.page.view_is) c.loop-mark-test.true
+    c.mark-item.is))
     (c.in_ok-add.ensures c.args.page.now.height c.args.height
     (take c.loop-mark.mark-index c.args.page.now.marks) c.loop-mark.invariant)
 
 pub returns : goal.returns
 returns c =
-    let marks = ap (λ (ms : List MarkValue). length ms) c.items-mark-items.ensures in
+    let marks = ap (λ (ms : List MarkValue). length ms)
+        (c.items-mark-items.ensures ∙ ap (λ (p : PageValue). p.marks) c.page.view_is) in
     split_at_end c.of.result c.args.page.now c.args.height c.loop-mark.mark-index c.loop-mark.work _
     c.loop-mark.invariant (omega (arith, marks, c.loop-mark-test.false))
     (ap (λ (p : PageValue). parts_of p c.args.height c.loop-mark.work.images) c.page.view_is)
