@@ -3,7 +3,8 @@ use Rattle.std.proofs.Common.{◌≡◌, ℕ, ◌+◌, ◌*◌, ◌-◌, ◌/◌
 use Rattle.std.proofs.Common.{refl, subst, inl, inr, arith}
 use Rattle.std.specs.Prelude.{min}
 use Rattle.std.specs.List.{list_any, range_with_len}
-use Rattle.std.proofs.lemmas.Bool.{cases_Bool, and_parts, and_from, and_right, both_ways, false_from_ne_true, leb-true, cases_lt}
+use Rattle.std.proofs.lemmas.Bool.{cases_Bool, and_parts, and_from, and_right, both_ways, false_from_ne_true}
+use Rattle.std.proofs.lemmas.Bool.{leb-true, cases_lt}
 use Rattle.std.proofs.lemmas.Bool.{ltb-true, leb-false, le-leb, lt-ltb, le-ltb}
 use Rattle.std.proofs.lemmas.List.Folds.{Any-from_list_any, list_any_at}
 use Rattle.std.proofs.lemmas.List.FromFn.{length-range_with_len, get_or-range_with_len}
@@ -31,7 +32,7 @@ some_row height rows band mark h =
     let long = length-range_with_len (band * rows) (rows_of_band height rows band) in
     let inside : any.0 < rows_of_band height rows band = omega (arith, long, any.2) in
     let at : band * rows + any.0 ≡ any.1 =
-        sym (get_or-range_with_len (band * rows) (rows_of_band height rows band) any.0 any.1 inside) ∙ any.3 in
+    sym (get_or-range_with_len (band * rows) (rows_of_band height rows band) any.0 any.1 inside) ∙ any.3 in
     record {
       row = any.1;
       above = omega (arith, at);
@@ -62,9 +63,9 @@ bands_met mark height rows first end band some reach more = elim (cases_Bool (me
       let m = some_row height rows band mark met in
       let within = (reach.rows m.row m.page).0 m.reached in
       let low : first / rows < band + 1 =
-          (div-lt_iff_lt-mul {k = rows} {x = first} {y = band + 1} some).1 (omega (arith, within.0, m.below)) in
+      (div-lt_iff_lt-mul {k = rows} {x = first} {y = band + 1} some).1 (omega (arith, within.0, m.below)) in
       let high : band ≤ (end - 1) / rows =
-          (le-div_iff_mul-le {k = rows} {x = band} {y = end - 1} some).1 (omega (arith, within.1, m.above)) in
+      (le-div_iff_mul-le {k = rows} {x = band} {y = end - 1} some).1 (omega (arith, within.1, m.above)) in
       met ∙ sym (and_from _ _ (le-leb (first / rows) band (omega (arith, low)))
       (lt-ltb band ((end - 1) / rows + 1) (omega (arith, high))))
   | inr missed ↦ missed ∙ sym (false_from_ne_true _ (λ both.
@@ -72,10 +73,11 @@ bands_met mark height rows first end band some reach more = elim (cases_Bool (me
       let low_band : first / rows ≤ band = leb-true (first / rows) band parts.0 in
       let high_band : band < (end - 1) / rows + 1 = ltb-true band ((end - 1) / rows + 1) parts.1 in
       let low : first < (band + 1) * rows =
-          (div-lt_iff_lt-mul {k = rows} {x = first} {y = band + 1} some).0 (omega (arith, low_band)) in
+      (div-lt_iff_lt-mul {k = rows} {x = first} {y = band + 1} some).0 (omega (arith, low_band)) in
       let high : band * rows ≤ end - 1 =
-          (le-div_iff_mul-le {k = rows} {x = band} {y = end - 1} some).0 (omega (arith, high_band)) in
-      both_ways (meets height rows band mark) missed (one_meets mark height rows first end band some reach more low high)))
+      (le-div_iff_mul-le {k = rows} {x = band} {y = end - 1} some).0 (omega (arith, high_band)) in
+      both_ways (meets height rows band mark) missed
+      (one_meets mark height rows first end band some reach more low high)))
 ]
   where
     one_meets : (mark : MarkValue) (height rows first end band : ℕ) → 0 < rows → IsReach mark height first end
@@ -118,9 +120,9 @@ count_up height rows some =
     let up = div_ceil_times height rows some in
     let q = height / rows + min 1 (height % rows) in
     let low : q ≤ (height + rows - 1) / rows =
-        (le-div_iff_mul-le {k = rows} {x = q} {y = height + rows - 1} some).1 (omega (arith, up.1, some)) in
+    (le-div_iff_mul-le {k = rows} {x = q} {y = height + rows - 1} some).1 (omega (arith, up.1, some)) in
     let high : (height + rows - 1) / rows < q + 1 =
-        (div-lt_iff_lt-mul {k = rows} {x = height + rows - 1} {y = q + 1} some).1 (omega (arith, up.0, some)) in
+    (div-lt_iff_lt-mul {k = rows} {x = height + rows - 1} {y = q + 1} some).1 (omega (arith, up.0, some)) in
     omega (arith, low, high)
 
 -- the band of a mark's first row stands before the end of its bands
@@ -128,11 +130,12 @@ pub bands_order : (rows first end : ℕ) → 0 < rows → first < end → first 
 bands_order rows first end some more =
     let low = div-mul-le_self first rows in
     let order : first / rows ≤ (end - 1) / rows =
-        (le-div_iff_mul-le {k = rows} {x = first / rows} {y = end - 1} some).1 (omega (arith, low, more)) in
+    (le-div_iff_mul-le {k = rows} {x = first / rows} {y = end - 1} some).1 (omega (arith, low, more)) in
     omega (arith, order)
 
 -- a reach that isn't empty
-pub some_reach : (mark : MarkValue) (height first end : ℕ) → IsReach mark height first end → (first ≡ end → ⊥) → first < end
+pub some_reach : (mark : MarkValue) (height first end : ℕ) → IsReach mark height first end → (first ≡ end → ⊥)
+    → first < end
 some_reach mark height first end reach other = elim (cases_lt first end) [
   | inl more ↦ more
   | inr none ↦ (let both = reach.none none in absurd (other (both.0 ∙ sym both.1)))

@@ -1,5 +1,6 @@
 -- The drafts of a page's bands, mark by mark.
-use Rattle.std.proofs.Common.{◌≡◌, ℕ, ◌+◌, ◌<◌, ◌≤◌, Bool, true, false, List, [], ◌∷◌, ◌++◌, length, get_or, refl, sym, ap}
+use Rattle.std.proofs.Common.{◌≡◌, ℕ, ◌+◌, ◌<◌, ◌≤◌, Bool, true, false, List, [], ◌∷◌, ◌++◌, length, get_or, refl}
+use Rattle.std.proofs.Common.{sym, ap}
 use Rattle.std.proofs.Common.{◌∙◌, subst, inl, inr, arith, append_assoc, length-append}
 use Rattle.std.specs.List.{filter, flat_map, AllByRecursion}
 use Rattle.std.proofs.lemmas.Bool.{cases_Bool}
@@ -8,7 +9,8 @@ use Rattle.std.proofs.lemmas.List.Elements.{filter-append}
 use Rattle.page_model.specs.Marking.{MarkValue}
 use Rattle.list_codec.specs.Command.{CmdValue, IsCmd}
 use Rattle.list_codec.specs.Spelling.{cmd_bytes}
-use Rattle.band_writer.specs.Bands.{PlacedMark, placed_at, placed_from, held_marks, images_of, mark_images, needs_of, mark_source}
+use Rattle.band_writer.specs.Bands.{PlacedMark, placed_at, placed_from, held_marks, images_of, mark_images, needs_of}
+use Rattle.band_writer.specs.Bands.{mark_source}
 use Rattle.band_writer.specs.Listing.{opening, change_cmds, painting_cmd, told_after, list_cmds, spelled}
 use Rattle.band_writer.specs.Code.Drafts.{DraftValue, empty_draft, draft_after, needs_after, told_by, IsDraft, IsAdded}
 use Rattle.band_writer.proofs.Sources.{needs_more}
@@ -24,8 +26,10 @@ pub draft_stays : (holds : MarkValue → Bool) (marks : List MarkValue) (mark : 
     → holds mark ≡ false → IsDraft holds marks draft → IsDraft holds (marks ++ mark ∷ []) draft
 draft_stays holds marks mark draft fails is = record {
   list = is.list ∙ ap (λ ps. spelled (list_cmds opening ps)) (sym (held_same holds marks mark fails));
-  commands = subst (λ ps. AllByRecursion IsCmd (list_cmds opening ps)) (sym (held_same holds marks mark fails)) is.commands;
-  needs = is.needs ∙ ap (λ ms. needs_of ms) (sym (filter-append holds marks (mark ∷ []) ∙ rw fails (append-nil (filter holds marks))));
+  commands = subst (λ ps. AllByRecursion IsCmd (list_cmds opening ps)) (sym
+      (held_same holds marks mark fails)) is.commands;
+  needs = is.needs ∙ ap (λ ms. needs_of ms) (sym (filter-append holds marks (mark ∷ [])
+      ∙ rw fails (append-nil (filter holds marks))));
   told = is.told ∙ ap (λ ps. told_by opening ps) (sym (held_same holds marks mark fails));
 }
 
@@ -44,22 +48,22 @@ draft_goes_on holds marks mark painted draft passes is command spelling changes 
     let held = held_more holds marks mark passes in
     let more : List CmdValue = change_cmds told mark ++ painting_cmd one ∷ [] in
     let cmds : list_cmds opening (held_marks holds (marks ++ mark ∷ [])) ≡ list_cmds opening before ++ more =
-        ap (λ ps. list_cmds opening ps) held ∙ cmds_more opening before one in
+    ap (λ ps. list_cmds opening ps) held ∙ cmds_more opening before one in
     let changed : AllByRecursion IsCmd (change_cmds told mark) =
-        subst (λ t. AllByRecursion IsCmd (change_cmds t mark)) is.told changes in
+    subst (λ t. AllByRecursion IsCmd (change_cmds t mark)) is.told changes in
     let bytes : spelled more ≡ spelled (change_cmds draft.told mark) ++ painted =
-        spelled_joined (change_cmds told mark) (painting_cmd one ∷ [])
-        ∙ ap (λ (b : List ℕ). spelled (change_cmds told mark) ++ b) (spelled_one (painting_cmd one) ∙ sym spelling)
-        ∙ ap (λ t. spelled (change_cmds t mark) ++ painted) (sym is.told) in
+    spelled_joined (change_cmds told mark) (painting_cmd one ∷ [])
+    ∙ ap (λ (b : List ℕ). spelled (change_cmds told mark) ++ b) (spelled_one (painting_cmd one) ∙ sym spelling)
+    ∙ ap (λ t. spelled (change_cmds t mark) ++ painted) (sym is.told) in
     record {
       list = ap (λ (b : List ℕ). b ++ (spelled (change_cmds draft.told mark) ++ painted)) is.list
           ∙ ap (λ (b : List ℕ). spelled (list_cmds opening before) ++ b) (sym bytes)
           ∙ sym (spelled_joined (list_cmds opening before) more)
           ∙ ap (λ cs. spelled cs) (sym cmds);
       commands = subst (λ cs. AllByRecursion IsCmd cs) (sym cmds) (
-      all_joined IsCmd (list_cmds opening before) more is.commands
-      (all_joined IsCmd (change_cmds told mark) (painting_cmd one ∷ []) changed (command, tt))
-      );
+          all_joined IsCmd (list_cmds opening before) more is.commands
+          (all_joined IsCmd (change_cmds told mark) (painting_cmd one ∷ []) changed (command, tt))
+          );
       needs = ap (λ (ns : List ℕ). needs_after ns (mark_source mark)) is.needs
           ∙ sym (needs_more (filter holds marks) mark)
           ∙ ap (λ ms. needs_of ms) (sym (filter-append holds marks (mark ∷ []) ∙ rw passes refl));

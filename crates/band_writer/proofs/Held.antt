@@ -1,5 +1,6 @@
 -- The commands and the bytes of a list after one more mark.
-use Rattle.std.proofs.Common.{◌≡◌, ℕ, ◌+◌, Bool, true, false, List, [], ◌∷◌, ◌++◌, length, refl, sym, ap, ◌∙◌, inl, inr, arith}
+use Rattle.std.proofs.Common.{◌≡◌, ℕ, ◌+◌, Bool, true, false, List, [], ◌∷◌, ◌++◌, length, refl, sym, ap, ◌∙◌, inl}
+use Rattle.std.proofs.Common.{inr, arith}
 use Rattle.std.proofs.Common.{append_assoc, length-append, subst, Result, Ok, Err}
 use Rattle.std.specs.Prelude.{OnOk, OnErr}
 use Rattle.std.specs.List.{filter, flat_map, AllByRecursion}
@@ -41,7 +42,8 @@ pub with_cmd : (bytes : List ℕ) (cmd : CmdValue) (new : List ℕ) → AreSpell
 with_cmd bytes cmd new are command put = record {
   cmds = are.cmds ++ cmd ∷ [];
   commands = all_joined IsCmd are.cmds (cmd ∷ []) are.commands (command, tt);
-  are = put ∙ ap (λ (b : List ℕ). b ++ cmd_bytes cmd) are.are ∙ ap (λ (b : List ℕ). spelled are.cmds ++ b) (sym (spelled_one cmd))
+  are = put ∙ ap (λ (b : List ℕ). b ++ cmd_bytes cmd) are.are ∙ ap (λ (b : List ℕ). spelled are.cmds ++ b) (sym
+      (spelled_one cmd))
       ∙ sym (spelled_joined are.cmds (cmd ∷ []));
 }
 
@@ -59,8 +61,8 @@ placed_more place [] mark =
     let same : place ≡ place + 0 = omega arith in ap (λ n. placed_at n mark ∷ []) same
 placed_more place (first ∷ marks) mark =
     let n : place + length (mark_images first) + length (flat_map mark_images marks)
-        ≡ place + length (mark_images first ++ flat_map mark_images marks) =
-        omega (arith, length-append (mark_images first) (flat_map mark_images marks)) in
+    ≡ place + length (mark_images first ++ flat_map mark_images marks) =
+    omega (arith, length-append (mark_images first) (flat_map mark_images marks)) in
     ap (λ ps. placed_at place first ∷ ps) (
     placed_more (place + length (mark_images first)) marks mark
     ∙ ap (λ k. placed_from (place + length (mark_images first)) marks ++ placed_at k mark ∷ []) n
@@ -108,7 +110,8 @@ told_more told [] one = refl
 told_more told (first ∷ placed) one = told_more (told_after told first.mark) placed one
 
 -- spellings after a command was put or memory ran out
-pub after_put : {A E : Type 0} (result : Result A E) (bytes : List ℕ) (cmd : CmdValue) (new : List ℕ) → AreSpellings bytes
+pub after_put : {A E : Type 0} (result : Result A E) (bytes : List ℕ) (cmd : CmdValue) (new : List ℕ)
+    → AreSpellings bytes
     → OnOk result (IsCmd cmd) → OnOk result (new ≡ bytes ++ cmd_bytes cmd) → OnErr result (new ≡ bytes)
     → AreSpellings new
 after_put (Ok done) bytes cmd new are command put same = with_cmd bytes cmd new are command put

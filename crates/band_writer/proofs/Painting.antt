@@ -1,5 +1,6 @@
 -- A dot's colour by the marks that a band holds is that by the marks of the page.
-use Rattle.std.proofs.Common.{◌≡◌, ℕ, zero, suc, ◌+◌, ◌*◌, ◌-◌, ◌<◌, ◌≤◌, Bool, true, false, cond, ◌&&◌, ◌||◌, List, [], ◌∷◌, ◌++◌, reverse}
+use Rattle.std.proofs.Common.{◌≡◌, ℕ, zero, suc, ◌+◌, ◌*◌, ◌-◌, ◌<◌, ◌≤◌, Bool, true, false, cond, ◌&&◌, ◌||◌, List}
+use Rattle.std.proofs.Common.{[], ◌∷◌, ◌++◌, reverse}
 use Rattle.std.proofs.Common.{Option, Some, None, refl, sym, ap, ◌∙◌, inl, inr, map, arith}
 use Rattle.std.specs.Prelude.{min}
 use Rattle.std.specs.List.{find, filter, flat_map, range_with_len, list_any, list_all, AllByRecursion}
@@ -8,7 +9,8 @@ use Rattle.std.proofs.lemmas.Bool.{cases_Bool, false≢true, false_from_ne_true}
 use Rattle.std.proofs.lemmas.List.{reverse-append}
 use Rattle.press_fault.specs.Plane.{CodeValue}
 use Rattle.page_model.specs.Marking.{RegionValue, MarkValue, PaintValue, Flatly, Pictured, Masked, IsSuited}
-use Rattle.page_model.specs.Cover.{covers_dot, shape_holds, image_holds, region_holds, mark_rgb, painting_rgb, dot_rgb, white}
+use Rattle.page_model.specs.Cover.{covers_dot, shape_holds, image_holds, region_holds, mark_rgb, painting_rgb}
+use Rattle.page_model.specs.Cover.{dot_rgb, white}
 use Rattle.page_model.specs.Pages.{row_text, rows_text, band_text, rows_of_band, dot_bytes}
 use Rattle.page_model.specs.declared.page.Depth.{Depth}
 use Rattle.page_model.specs.declared.shape.Rule.{Rule}
@@ -52,12 +54,12 @@ unfolding painted
 same_painted p q f g Suits ground [] covers looks left suited = refl
 same_painted p q f g Suits ground (x ∷ xs) covers looks left suited = elim (cases_Bool (q x)) [
   | inl held ↦ rw held (
-    ap (λ b. painted p f (cond b (f (g x)) ground) (map g (filter q xs))) (covers x suited.0)
-    ∙ ap (λ y. painted p f (cond (p x) y ground) (map g (filter q xs))) (looks x)
-    ∙ same_painted p q f g Suits (cond (p x) (f x) ground) xs covers looks left suited.1)
+      ap (λ b. painted p f (cond b (f (g x)) ground) (map g (filter q xs))) (covers x suited.0)
+      ∙ ap (λ y. painted p f (cond (p x) y ground) (map g (filter q xs))) (looks x)
+      ∙ same_painted p q f g Suits (cond (p x) (f x) ground) xs covers looks left suited.1)
   | inr out ↦ rw out (
-    same_painted p q f g Suits ground xs covers looks left suited.1
-    ∙ ap (λ b. painted p f (cond b (f x) ground) xs) (sym (left x out)))
+      same_painted p q f g Suits ground xs covers looks left suited.1
+      ∙ ap (λ b. painted p f (cond b (f x) ground) xs) (sym (left x out)))
 ]
 
 made_mark : Rule → List Shape → List RegionValue → Option ℕ → PaintValue → MarkValue
@@ -97,7 +99,8 @@ pub left_out : (height band_rows band row col : ℕ) (mark : MarkValue) → meet
 left_out height band_rows band row col mark out above below =
     let in_band : row < (band + 1) * band_rows = omega (arith, below) in
     let on_page : row < height = omega (arith, below) in
-    false_from_ne_true (covers_dot row col mark) (λ covered. false≢true (sym out ∙ meets_by height band_rows band row mark
+    false_from_ne_true (covers_dot row col mark) (λ covered. false≢true (sym out
+    ∙ meets_by height band_rows band row mark
     above in_band on_page (covered_is_reached mark row col covered)))
 
 dot_same : (depth : Depth) (tint : ℕ → CodeValue → List ℕ) (height band_rows band row col : ℕ) (marks : List MarkValue)
@@ -117,7 +120,8 @@ dot_same depth tint height band_rows band row col marks suited above below =
 
 each_same : (f g : ℕ → List ℕ) (xs : List ℕ) → ((k : ℕ) → f k ≡ g k) → flat_map f xs ≡ flat_map g xs
 each_same f g [] h = refl
-each_same f g (x ∷ xs) h = ap (λ (a : List ℕ). a ++ flat_map f xs) (h x) ∙ ap (λ (a : List ℕ). g x ++ a) (each_same f g xs h)
+each_same f g (x ∷ xs) h = ap (λ (a : List ℕ). a ++ flat_map f xs) (h x)
+    ∙ ap (λ (a : List ℕ). g x ++ a) (each_same f g xs h)
 
 rows_same : (f g : ℕ → List ℕ) (first count : ℕ) → ((k : ℕ) → first ≤ k → k < first + count → f k ≡ g k)
     → flat_map f (range_with_len first count) ≡ flat_map g (range_with_len first count)

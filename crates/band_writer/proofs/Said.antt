@@ -1,6 +1,8 @@
 -- What the commands of a list say is the marks that it holds.
-use Rattle.std.proofs.Common.{◌≡◌, ℕ, zero, suc, ◌+◌, Bool, true, false, cond, eqb, not, ◌&&◌, ◌||◌, List, [], ◌∷◌, ◌++◌, length}
-use Rattle.std.proofs.Common.{Option, Some, None, refl, sym, ap, ◌∙◌, inl, inr, subst, arith, append_assoc, length-append, map}
+use Rattle.std.proofs.Common.{◌≡◌, ℕ, zero, suc, ◌+◌, Bool, true, false, cond, eqb, not, ◌&&◌, ◌||◌, List, [], ◌∷◌}
+use Rattle.std.proofs.Common.{◌++◌, length}
+use Rattle.std.proofs.Common.{Option, Some, None, refl, sym, ap, ◌∙◌, inl, inr, subst, arith, append_assoc}
+use Rattle.std.proofs.Common.{length-append, map}
 use Rattle.std.specs.Cmp.Lexicographic.{pointwise}
 use Rattle.std.specs.Prelude.{IfSome}
 use Rattle.std.specs.List.{filter, flat_map, slice_get, AllByRecursion}
@@ -15,8 +17,10 @@ use Rattle.page_model.specs.Page.{HasClipOfNumber}
 use Rattle.page_model.specs.declared.mark.Ink.{Ink}
 use Rattle.page_model.specs.declared.mark.Ink.TheVariants.{Plain, Linked}
 use Rattle.list_codec.specs.Command.{CmdValue, Inked, Clipped}
-use Rattle.band_writer.specs.Bands.{PlacedMark, placed_at, placed_from, held_marks, images_of, mark_images, paint_images}
-use Rattle.band_writer.specs.Listing.{Told, opening, same_code, same_ink, same_number, has_regions, is_clip_told, needed_ink}
+use Rattle.band_writer.specs.Bands.{PlacedMark, placed_at, placed_from, held_marks, images_of, mark_images}
+use Rattle.band_writer.specs.Bands.{paint_images}
+use Rattle.band_writer.specs.Listing.{Told, opening, same_code, same_ink, same_number, has_regions, is_clip_told}
+use Rattle.band_writer.specs.Listing.{needed_ink}
 use Rattle.band_writer.specs.Listing.{ink_cmds, clip_cmds, change_cmds, paint_cmd, painting_cmd, with_ink, with_clip}
 use Rattle.band_writer.specs.Listing.{told_after, list_cmds}
 use Rattle.band_writer.specs.Said.{marks_said, as_said, without_number}
@@ -88,7 +92,7 @@ clip_said : (images : List ImageValue) (clip_of : ℕ → List RegionValue) (tol
 unfolding marks_said
 clip_said images clip_of told ink mark clip cmds agrees numbered = elim (cases_Bool (is_clip_told told mark)) [
   | inl same ↦ rw same (ap (λ (r : List RegionValue). marks_said images ink r cmds)
-    (told_clip clip_of told mark clip agrees numbered same))
+      (told_clip clip_of told mark clip agrees numbered same))
   | inr other ↦ rw other refl
 ]
 
@@ -114,7 +118,8 @@ with_clip_ink told mark = elim (cases_Bool (is_clip_told told mark)) [
 ]
 
 -- the item behind so many others
-behind : {X : Type 0} (before : List X) (x : X) (after : List X) → slice_get (before ++ x ∷ after) (length before) ≡ Some x
+behind : {X : Type 0} (before : List X) (x : X) (after : List X) → slice_get (before ++ x ∷ after)
+    (length before) ≡ Some x
 behind [] x after = refl
 behind (y ∷ before) x after = behind before x after
 
@@ -127,11 +132,11 @@ unfolding marks_said
 paint_said images before after told mark (Flatly ink) cmds is = refl
 paint_said images before after told mark (Pictured image) cmds is =
     let found : slice_get images (length before) ≡ Some image =
-        ap (λ all. slice_get all (length before)) is ∙ behind before image after in
+    ap (λ all. slice_get all (length before)) is ∙ behind before image after in
     rw found refl
 paint_said images before after told mark (Masked image ink) cmds is =
     let found : slice_get images (length before) ≡ Some image =
-        ap (λ all. slice_get all (length before)) is ∙ behind before image after in
+    ap (λ all. slice_get all (length before)) is ∙ behind before image after in
     rw found refl
 
 -- one mark, and what follows it
@@ -148,7 +153,7 @@ mark_said images before after clip_of told mark clip cmds is agrees numbered =
     let inks : List CmdValue = ink_cmds told.ink (needed_ink mark.paint) in
     let clips : List CmdValue = clip_cmds next mark in
     let order : ((inks ++ clips) ++ paint ∷ []) ++ cmds ≡ inks ++ (clips ++ (paint ∷ cmds)) =
-        append_assoc (inks ++ clips) (paint ∷ []) cmds ∙ append_assoc inks clips (paint ∷ cmds) in
+    append_assoc (inks ++ clips) (paint ∷ []) cmds ∙ append_assoc inks clips (paint ∷ cmds) in
     ap (λ cs. marks_said images told.ink clip cs) order
     ∙ ink_said images told (needed_ink mark.paint) clip (clips ++ (paint ∷ cmds))
     ∙ clip_said images clip_of next next.ink mark clip (paint ∷ cmds)
@@ -177,19 +182,19 @@ unfolding marks_said list_cmds placed_from images_of
 all_said images before clip_of holds [] told clip is agrees numbered = refl
 all_said images before clip_of holds (mark ∷ marks) told clip is agrees numbered =
     let long : length before + length (mark_images mark) ≡ length (before ++ mark_images mark) =
-        sym (length-append before (mark_images mark)) in
+    sym (length-append before (mark_images mark)) in
     let next : images ≡ (before ++ mark_images mark) ++ images_of marks =
-        is ∙ sym (append_assoc before (mark_images mark) (images_of marks)) in
+    is ∙ sym (append_assoc before (mark_images mark) (images_of marks)) in
     let test : PlacedMark → Bool = λ placed. holds placed.mark in
     elim (cases_Bool (holds mark)) [
       | inl held ↦ rw (held, long) (
-        mark_said images before (images_of marks) clip_of told mark clip
-        (list_cmds (told_after told mark) (filter test (placed_from (length (before ++ mark_images mark)) marks)))
-        is agrees numbered.0
-        ∙ ap (λ ms. without_number mark ∷ ms) (all_said images (before ++ mark_images mark) clip_of holds marks
-        (told_after told mark) mark.clip next (after_agrees clip_of told mark clip agrees numbered.0) numbered.1))
+          mark_said images before (images_of marks) clip_of told mark clip
+          (list_cmds (told_after told mark) (filter test (placed_from (length (before ++ mark_images mark)) marks)))
+          is agrees numbered.0
+          ∙ ap (λ ms. without_number mark ∷ ms) (all_said images (before ++ mark_images mark) clip_of holds marks
+          (told_after told mark) mark.clip next (after_agrees clip_of told mark clip agrees numbered.0) numbered.1))
       | inr left ↦ rw (left, long) (
-        all_said images (before ++ mark_images mark) clip_of holds marks told clip next agrees numbered.1)
+          all_said images (before ++ mark_images mark) clip_of holds marks told clip next agrees numbered.1)
     ]
 
 -- a list says the marks that it holds

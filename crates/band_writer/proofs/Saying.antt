@@ -1,5 +1,6 @@
 -- A draft after an ink, a clip and a mark.
-use Rattle.std.proofs.Common.{◌≡◌, ℕ, Bool, true, false, List, [], ◌∷◌, ◌++◌, Option, Some, None, Result, Ok, Err, refl, sym, ap, ◌∙◌}
+use Rattle.std.proofs.Common.{◌≡◌, ℕ, Bool, true, false, List, [], ◌∷◌, ◌++◌, Option, Some, None, Result, Ok, Err}
+use Rattle.std.proofs.Common.{refl, sym, ap, ◌∙◌}
 use Rattle.std.proofs.Common.{subst, append_assoc}
 use Rattle.std.specs.Prelude.{OnOk}
 use Rattle.std.specs.List.{AllByRecursion}
@@ -9,7 +10,8 @@ use Rattle.page_model.specs.declared.mark.Ink.{Ink}
 use Rattle.list_codec.specs.Command.{CmdValue, Inked, Clipped, IsCmd}
 use Rattle.list_codec.specs.Spelling.{cmd_bytes}
 use Rattle.band_writer.specs.Bands.{mark_source}
-use Rattle.band_writer.specs.Listing.{Told, same_ink, has_regions, is_clip_told, needed_ink, ink_cmds, clip_cmds, change_cmds}
+use Rattle.band_writer.specs.Listing.{Told, same_ink, has_regions, is_clip_told, needed_ink, ink_cmds, clip_cmds}
+use Rattle.band_writer.specs.Listing.{change_cmds}
 use Rattle.band_writer.specs.Listing.{with_ink, with_clip, told_after, spelled}
 use Rattle.band_writer.specs.Code.Drafts.{DraftValue, with_said, needs_after, draft_after}
 use Rattle.band_writer.proofs.Held.{all_joined, spelled_joined, spelled_one}
@@ -67,7 +69,8 @@ pub ink_changes : (draft seen new : DraftValue) (ink : Ink) → seen ≡ draft �
     → new.told ≡ with_ink seen.told (Some ink)
     → new ≡ with_said draft (ink_cmds draft.told.ink (Some ink)) (with_ink draft.told (Some ink))
 ink_changes draft seen new ink is other list needs told =
-    let differs : same_ink draft.told.ink ink ≡ false = subst (λ (d : DraftValue). same_ink d.told.ink ink ≡ false) is other in
+    let differs : same_ink draft.told.ink ink ≡ false = subst (λ
+    (d : DraftValue). same_ink d.told.ink ink ≡ false) is other in
     said_one draft seen new (ink_cmds draft.told.ink (Some ink)) (Inked ink) (with_ink draft.told (Some ink)) is
     (rw differs refl) list needs (told ∙ ap (λ (d : DraftValue). with_ink d.told (Some ink)) is)
 
@@ -78,18 +81,19 @@ clip_stays draft mark same =
     unsaid draft (clip_cmds draft.told mark) (with_clip draft.told mark) (rw same refl) (rw same refl)
 
 -- another clip is said
-pub clip_changes : (draft seen new : DraftValue) (mark : MarkValue) → seen ≡ draft → is_clip_told draft.told mark ≡ false
+pub clip_changes : (draft seen new : DraftValue) (mark : MarkValue) → seen ≡ draft
+    → is_clip_told draft.told mark ≡ false
     → new.list ≡ seen.list ++ cmd_bytes (Clipped mark.clip) → new.needs ≡ seen.needs
     → new.told.ink ≡ seen.told.ink → new.told.number ≡ mark.clip_number → new.told.cuts ≡ has_regions mark.clip
     → new ≡ with_said draft (clip_cmds draft.told mark) (with_clip draft.told mark)
 unfolding made_told
 clip_changes draft seen new mark is other list needs ink number cuts =
     let told : new.told ≡ with_clip draft.told mark =
-        rw other (
-        ap (λ i. made_told i new.told.number new.told.cuts) (ink ∙ ap (λ (d : DraftValue). d.told.ink) is)
-        ∙ ap (λ n. made_told draft.told.ink n new.told.cuts) number
-        ∙ ap (λ b. made_told draft.told.ink mark.clip_number b) cuts
-        ) in
+    rw other (
+    ap (λ i. made_told i new.told.number new.told.cuts) (ink ∙ ap (λ (d : DraftValue). d.told.ink) is)
+    ∙ ap (λ n. made_told draft.told.ink n new.told.cuts) number
+    ∙ ap (λ b. made_told draft.told.ink mark.clip_number b) cuts
+    ) in
     said_one draft seen new (clip_cmds draft.told mark) (Clipped mark.clip) (with_clip draft.told mark) is
     (rw other refl) list needs told
 
@@ -104,13 +108,13 @@ unfolding draft_after change_cmds told_after
 mark_added (Err e) draft inked clipped seen new mark painted ink source ink_is source_is one two is list needs told = tt
 mark_added (Ok done) draft inked clipped seen new mark painted ink source ink_is source_is one two is list needs told =
     let first : inked ≡ with_said draft (ink_cmds draft.told.ink (needed_ink mark.paint))
-        (with_ink draft.told (needed_ink mark.paint)) =
-        one ∙ ap (λ (i : Option Ink). with_said draft (ink_cmds draft.told.ink i) (with_ink draft.told i)) ink_is in
+    (with_ink draft.told (needed_ink mark.paint)) =
+    one ∙ ap (λ (i : Option Ink). with_said draft (ink_cmds draft.told.ink i) (with_ink draft.told i)) ink_is in
     let next : Told = with_ink draft.told (needed_ink mark.paint) in
     let inks : List CmdValue = ink_cmds draft.told.ink (needed_ink mark.paint) in
     let clips : List CmdValue = clip_cmds next mark in
     let whole : seen ≡ with_said (with_said draft inks next) clips (with_clip next mark) =
-        is ∙ two ∙ ap (λ (d : DraftValue). with_said d (clip_cmds d.told mark) (with_clip d.told mark)) first in
+    is ∙ two ∙ ap (λ (d : DraftValue). with_said d (clip_cmds d.told mark) (with_clip d.told mark)) first in
     same_draft new (record {
       list = draft.list ++ (spelled (inks ++ clips) ++ painted);
       needs = needs_after draft.needs (mark_source mark);
@@ -133,7 +137,7 @@ unfolding change_cmds
 changes_are (Err e) draft inked mark ink is one inks clips = tt
 changes_are (Ok done) draft inked mark ink is one inks clips =
     let told : inked.told ≡ with_ink draft.told (needed_ink mark.paint) =
-        ap (λ (d : DraftValue). d.told) one ∙ ap (λ (i : Option Ink). with_ink draft.told i) is in
+    ap (λ (d : DraftValue). d.told) one ∙ ap (λ (i : Option Ink). with_ink draft.told i) is in
     all_joined IsCmd (ink_cmds draft.told.ink (needed_ink mark.paint))
     (clip_cmds (with_ink draft.told (needed_ink mark.paint)) mark)
     (subst (λ (i : Option Ink). AllByRecursion IsCmd (ink_cmds draft.told.ink i)) is inks)

@@ -1,5 +1,6 @@
 -- The needs after one more mark.
-use Rattle.std.proofs.Common.{◌≡◌, ℕ, suc, ◌-◌, length, arith, Bool, true, false, cond, eqb, ◌==◌, List, [], ◌∷◌, ◌++◌, Option, Some, None, refl, sym, ap}
+use Rattle.std.proofs.Common.{◌≡◌, ℕ, suc, ◌-◌, length, arith, Bool, true, false, cond, eqb, ◌==◌, List, [], ◌∷◌}
+use Rattle.std.proofs.Common.{◌++◌, Option, Some, None, refl, sym, ap}
 use Rattle.std.proofs.Common.{◌∙◌, inl, inr}
 use Rattle.std.specs.List.{dedup, dedup_from, filter_map, slice_get}
 use Rattle.std.proofs.lemmas.Bool.{cases_Bool, cases_eq, eq-eqb, ne_eqb}
@@ -27,7 +28,7 @@ front_stays : (k first : ℕ) (rest : List ℕ) (x : ℕ)
 front_stays k first rest x =
     let n : length (k ∷ first ∷ rest) - 1 ≡ suc (length (first ∷ rest) - 1) = omega arith in
     let same : is_last (k ∷ first ∷ rest) x ≡ is_last (first ∷ rest) x =
-        ap (λ i. is_number (slice_get (k ∷ first ∷ rest) i) x) n in
+    ap (λ i. is_number (slice_get (k ∷ first ∷ rest) i) x) n in
     rw same (over_cond (is_last (first ∷ rest) x) k (first ∷ rest) (first ∷ rest ++ x ∷ []))
   where
     over_cond : (b : Bool) (k : ℕ) (xs ys : List ℕ) → k ∷ cond b xs ys ≡ cond b (k ∷ xs) (k ∷ ys)
@@ -57,7 +58,8 @@ dedup_more : (xs : List ℕ) (x : ℕ) → dedup ◌==◌ (xs ++ x ∷ []) ≡ n
 dedup_more [] x = refl
 dedup_more (k ∷ xs) x = from_more k xs x
 
-sources_more : (xs : List ℕ) (source : Option ℕ) (all : List ℕ) → all ≡ xs ++ filter_map (λ (o : Option ℕ). o) (source ∷ [])
+sources_more : (xs : List ℕ) (source : Option ℕ) (all : List ℕ) → all ≡ xs ++ filter_map (λ (o : Option ℕ). o)
+    (source ∷ [])
     → dedup ◌==◌ all ≡ needs_after (dedup ◌==◌ xs) source
 sources_more xs None all is = ap (λ ns. dedup ◌==◌ ns) (is ∙ append-nil xs)
 sources_more xs (Some x) all is = ap (λ ns. dedup ◌==◌ ns) is ∙ dedup_more xs x

@@ -22,10 +22,15 @@ pub record PagePartsValue : Type 0 where
   pub depth : Depth
   pub images : List ImageValue
 
--- a page in bands: what they share, and the bytes and the needs of each
+-- the list of a band: its number, counted from the top, and the bytes of its commands
+pub record BandListValue : Type 0 where
+  pub band : ℕ
+  pub bytes : List ℕ
+
+-- a page in bands: what they share, and the list and the needs of each
 pub record BandListsValue : Type 0 where
   pub parts : PagePartsValue
-  pub lists : List (List ℕ)
+  pub lists : List BandListValue
   pub needs : List (List ℕ)
 
 -- bytes that are the spelling of a command
@@ -43,6 +48,10 @@ pub record AreSpellings (bytes : List ℕ) : Type 0 where
 -- the commands of a band's list
 abbrev pub band_cmds : PageValue → ℕ → ℕ → List CmdValue
 band_cmds page band_rows band = list_cmds opening (held_marks (meets page.height band_rows band) page.marks)
+
+-- the list of a band
+abbrev pub band_list : PageValue → ℕ → ℕ → BandListValue
+band_list page band_rows band = record { band = band; bytes = spelled (band_cmds page band_rows band) }
 
 -- the needs of a band
 abbrev pub band_needs : PageValue → ℕ → ℕ → List ℕ
@@ -62,9 +71,10 @@ pub record IsSplit (page : PageValue) (band_rows : ℕ) (split : BandListsValue)
     images = images_of page.marks;
   }
   pub lists : split.lists
-      ≡ map (λ band. spelled (band_cmds page band_rows band)) (range_with_len 0 (band_count page.height band_rows))
+      ≡ map (band_list page band_rows) (range_with_len 0 (band_count page.height band_rows))
   pub needs : split.needs
       ≡ map (band_needs page band_rows) (range_with_len 0 (band_count page.height band_rows))
   -- the bounds of the commands and the form of the marks, which their types keep
-  pub commands : (band : ℕ) → band < band_count page.height band_rows → AllByRecursion IsCmd (band_cmds page band_rows band)
+  pub commands : (band : ℕ) → band < band_count page.height band_rows → AllByRecursion IsCmd
+      (band_cmds page band_rows band)
   pub suited : AllByRecursion IsSuitedMark page.marks

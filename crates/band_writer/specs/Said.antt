@@ -1,5 +1,5 @@
--- What the commands of a list say. Own rule: an ink and a clip hold from where they are said on; a list begins with gray
--- 0, and with a clip that cuts nothing.
+-- What the commands of a list say. Own rule: an ink and a clip hold from where they are said on; a list begins with
+-- gray 0, and with a clip that cuts nothing.
 use Rattle.std.specs.Prelude.{ℕ, List, [], ◌∷◌, Option, Some, None}
 use Rattle.std.specs.List.{slice_get}
 use Rattle.page_model.specs.Image.{ImageValue}
@@ -17,7 +17,8 @@ said_mark rule shapes clip paint =
     record { rule = rule; shapes = shapes; clip = clip; clip_number = None; paint = paint }
 
 -- a mark that paints with an image of the table, if there is one at its place
-abbrev pub image_marks : List RegionValue → Option ImageValue → (ImageValue → PaintValue) → List MarkValue → List MarkValue
+abbrev pub image_marks : List RegionValue → Option ImageValue → (ImageValue → PaintValue) → List MarkValue
+    → List MarkValue
 image_marks clip None paint rest = rest
 image_marks clip (Some image) paint rest = said_mark Nonzero [] clip (paint image) ∷ rest
 

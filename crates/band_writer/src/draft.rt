@@ -9,7 +9,7 @@ ghost use Rattle.band_writer.specs.Listing.{clip_cmds, change_cmds, with_ink, wi
 ghost use Rattle.band_writer.specs.Parts.{IsSpelling};
 ghost use Rattle.band_writer.specs.Code.Drafts.{empty_draft, draft_after, with_said};
 
-use crate::list::BandList;
+use crate::commands::Commands;
 use crate::needs::Needs;
 use page_model::{ClipNumber, Ink, Mark, Paint};
 use press_fault::{Code, Mem};
@@ -19,7 +19,7 @@ use std::marker::Model;
 /// A band's list and needs so far, and what the list said last.
 #[derive(Drop)]
 pub struct Draft {
-    list: BandList,
+    list: Commands,
     needs: Needs,
     ink: Ink,
     clip_number: ClipNumber,
@@ -45,7 +45,7 @@ impl Draft {
         ensures { result ≡ empty_draft }
     {
         Draft {
-            list: BandList::new(alloc),
+            list: Commands::new(alloc),
             needs: Needs::new(alloc),
             ink: Ink::Plain(Code::gray(0)),
             clip_number: ClipNumber::none(),
@@ -120,7 +120,7 @@ impl Draft {
     }
 
     /// The list and the needs.
-    pub fn into_parts(self) -> (BandList, Needs)
+    pub fn into_parts(self) -> (Commands, Needs)
         ensures list { result.0 ≡ self.list }
         ensures needs { result.1 ≡ self.needs }
     {

@@ -5,6 +5,7 @@
 //! Rows and columns count dots.
 #![tactic(auto)]
 
+mod commands;
 mod draft;
 mod laws;
 mod list;

@@ -1,74 +1,44 @@
-ghost use Rattle.std.specs.Prelude.{◌≡◌, ◌++◌, [], OnOk, OnErr};
-ghost use Rattle.list_codec.specs.Command.{IsCmd, Inked, Clipped};
-ghost use Rattle.list_codec.specs.Spelling.{cmd_bytes};
-ghost use Rattle.band_writer.specs.Parts.{AreSpellings, IsSpelling};
+ghost use Rattle.std.specs.Prelude.{◌≡◌};
+ghost use Rattle.band_writer.specs.Parts.{AreSpellings};
 
-use list_codec::{put_clip, put_flat};
-use page_model::{Clip, Ink};
-use press_fault::Mem;
-use std::alloc::Global;
+use crate::commands::Commands;
 use std::marker::Model;
 
-/// The commands of a band, as bytes: spellings of commands, one after the other.
+/// The list of a band: the band's number, counted from the top of the page, and its commands, as bytes.
 #[derive(Drop)]
 pub struct BandList {
-    bytes: Vec<u8>,
+    band: u32,
+    commands: Commands,
 }
 
 impl Model for BandList {
-    ghost use Rattle.std.specs.Prelude.{ℕ, List};
-    ghost use Rattle.band_writer.specs.Parts.{AreSpellings};
+    ghost use Rattle.band_writer.specs.Parts.{BandListValue};
 
-    ghost Value = { List ℕ };
+    ghost Value = { BandListValue };
 
-    ghost view = { λ l. l.bytes.items };
-
-    ghost invariant = { λ l. AreSpellings l.bytes.items };
+    ghost view = { λ l. record { band = l.band; bytes = l.commands } };
 }
 
 impl BandList {
-    /// A list without commands.
-    pub(crate) fn new(alloc: Global) -> BandList
-        ensures { result ≡ [] }
+    /// The list of a band with these commands.
+    pub(crate) fn of(band: u32, commands: Commands) -> BandList
+        ensures { result ≡ record { band = band; bytes = commands } }
     {
-        BandList {
-            bytes: Vec::new(alloc),
-        }
+        BandList { band, commands }
     }
 
-    /// Adds a `Flat`.
-    pub(crate) fn put_ink(&mut self, ink: Ink) -> Mem<()>
-        ensures ok { OnOk result (self.new ≡ self.old ++ cmd_bytes (Inked ink)) }
-        ensures err { OnErr result (self.new ≡ self.old) }
-        ensures command { IsCmd (Inked ink) }
+    /// The number of the band.
+    pub fn band(&self) -> u32
+        ensures { result ≡ self.now.band }
     {
-        put_flat(&mut self.bytes, ink)
-    }
-
-    /// Adds a `Clip`.
-    pub(crate) fn put_clip(&mut self, clip: &Clip) -> Mem<()>
-        ensures ok { OnOk result (self.new ≡ self.old ++ cmd_bytes (Clipped clip.now)) }
-        ensures err { OnErr result (self.new ≡ self.old) }
-        ensures command { OnOk result (IsCmd (Clipped clip.now)) }
-    {
-        put_clip(&mut self.bytes, clip)
-    }
-
-    /// Adds a command by its spelling.
-    pub(crate) fn put(&mut self, spelling: &[u8]) -> Mem<()>
-        requires { IsSpelling spelling.now }
-        ensures ok { OnOk result (self.new ≡ self.old ++ spelling.now) }
-        ensures err { OnErr result (self.new ≡ self.old) }
-    {
-        self.bytes.extend_from_slice(spelling)?;
-        Ok(())
+        self.band
     }
 
     /// The bytes of the commands.
     pub fn bytes(&self) -> &[u8]
-        ensures value { result.now ≡ self.now }
-        ensures spellings { AreSpellings self.now }
+        ensures value { result.now ≡ self.now.bytes }
+        ensures spellings { AreSpellings self.now.bytes }
     {
-        &self.bytes
+        self.commands.bytes()
     }
 }

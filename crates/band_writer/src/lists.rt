@@ -1,5 +1,5 @@
 ghost use Rattle.std.specs.Prelude.{◌≡◌, ◌<◌, ◌^◌, [], IfOk, length, map, slice_index_or};
-ghost use Rattle.band_writer.specs.Code.Drafts.{DraftValue};
+ghost use Rattle.band_writer.specs.Code.Drafts.{DraftValue, AreNumbered};
 
 use crate::draft::Draft;
 use crate::list::BandList;
@@ -34,14 +34,15 @@ impl BandLists {
     pub(crate) fn of(alloc: Global, parts: PageParts, drafts: Vec<Draft>) -> Mem<BandLists>
         requires { length drafts.items < 2 ^ 32 }
         ensures parts { IfOk result (λ lists. lists.parts ≡ parts) }
-        ensures lists { IfOk result (λ lists. lists.lists ≡ map (λ (draft : DraftValue). draft.list) drafts.items) }
+        ensures lists { IfOk result (λ lists. AreNumbered drafts.items lists.lists) }
         ensures needs { IfOk result (λ lists. lists.needs ≡ map (λ (draft : DraftValue). draft.needs) drafts.items) }
     {
         let mut lists = Vec::with_capacity(alloc, drafts.len())?;
         let mut needs = Vec::with_capacity(alloc, drafts.len())?;
         for draft in drafts {
-            let (list, sources) = draft.into_parts();
-            lists.push(list)?;
+            let (commands, sources) = draft.into_parts();
+            let band = lists.len() as u32;
+            lists.push(BandList::of(band, commands))?;
             needs.push(sources)?;
         }
         Ok(BandLists {
@@ -68,7 +69,7 @@ impl BandLists {
     /// The list of a band.
     pub fn list(&self, band: u32) -> &BandList
         requires { band < length self.now.lists }
-        ensures { result.now ≡ slice_index_or self.now.lists band [] }
+        ensures { result.now ≡ slice_index_or self.now.lists band (record { band = band; bytes = [] }) }
     {
         &self.lists[band as usize]
     }

@@ -49,6 +49,7 @@ const TALL: &[u8] = &[
 
 /// The clip of one region without edges, and that of two.
 const ONE: &[u8] = &[0x02, 0x01, 0x01, 0x00];
+
 const TWO: &[u8] = &[0x02, 0x02, 0x01, 0x00, 0x01, 0x00];
 
 /// The clip without regions.
@@ -299,7 +300,14 @@ fn images_stand_in_one_table(rt: HostRuntime) -> Result<(), Fail> {
     ];
     let mut lists = bands(alloc, 1, &plans)?;
     assert!(rt; is_list(alloc, &lists, 0, &[RED_BYTES, &[0x05, 0x01], &[0x04, 0x02]])?);
-    assert!(rt; is_list(alloc, &lists, 1, &[&[0x04, 0x00], RED_BYTES, &[0x05, 0x01], &[0x04, 0x02]])?);
+    assert!(rt;
+        is_list(
+            alloc,
+            &lists,
+            1,
+            &[&[0x04, 0x00], RED_BYTES, &[0x05, 0x01], &[0x04, 0x02]]
+        )?
+    );
     lists.set_depth(Depth::Sixteen);
     let parts = lists.parts();
     assert!(rt; parts.images.items().len() == 3);

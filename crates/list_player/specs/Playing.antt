@@ -1,5 +1,5 @@
--- Playing the list of a band: the marks that it says are drawn in order, each with the colours of its source. Own rule: a
--- loan of colours serves the marks of one source, up to the first mark that needs another.
+-- Playing the list of a band: the marks that it says are drawn in order, each with the colours of its source. Own rule:
+-- a loan of colours serves the marks of one source, up to the first mark that needs another.
 use Rattle.std.specs.Prelude.{◌≡◌, ℕ, ◌==◌, Bool, true, false, List, ◌++◌, take, drop, Option, Some, None}
 use Rattle.std.specs.List.{filter_map, prefix_len, slice_get}
 use Rattle.std.specs.Option.{option_map_or}

@@ -1,8 +1,10 @@
 use page_model::Bytes;
 use std::marker::Model;
 
-/// The dots of a band: its number, counted from the top of the page, how many rows it has, and the values of its dots, row by row
-/// from the left, red, green and blue in turn: of one byte at a depth of 8 bits, and of two at 16, the more significant first.
+/// The dots of a band: its number, counted from the top of the page, how many rows it has, and the values of its dots.
+///
+/// These stand row by row from the left, red, green and blue in turn: in one byte at a depth of 8 bits, and in two
+/// at 16, the more significant first.
 #[derive(Drop)]
 pub struct BandDots {
     pub band: u32,

@@ -1,7 +1,7 @@
 //! The dots of a band of a page, drawn from the band's list.
 //!
-//! Proved against `specs/Playing.antt`, over what a list says in band_writer and the dots of a band in page_model. Start
-//! with `colours.rt` for who gives linked codes their colours, then `player.rt` and `play.rt`.
+//! To be proved against `specs/Playing.antt`, over what a list says in band_writer and the dots of a band in
+//! page_model. Start with `colours.rt` for who gives linked codes their colours.
 //! Rows and columns count dots.
 #![tactic(auto)]
 

@@ -9,7 +9,8 @@ none_told : (mark : MarkValue) → mark.clip_number ≡ None → HasClipOfNumber
 none_told mark none = subst (λ o. IfSome o (λ number. mark.clip ≡ [])) (sym none) tt
 
 -- they keep what a page keeps of clip numbers
-pub unnumbered : (marks : List MarkValue) → All (λ (mark : MarkValue). mark.clip_number ≡ None) marks → HaveNumberedClips marks
+pub unnumbered : (marks : List MarkValue) → All (λ (mark : MarkValue). mark.clip_number ≡ None) marks
+    → HaveNumberedClips marks
 unnumbered marks none = record {
   clip_of = λ _. [];
   each = All-weaker (λ (mark : MarkValue). mark.clip_number ≡ None) (HasClipOfNumber (λ _. [])) none_told marks none;

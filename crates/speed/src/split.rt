@@ -1,4 +1,4 @@
-//! How fast a page is split into bands: how many bytes all lists have, and a sum over them; the nanoseconds of the split.
+//! How fast a page is split into bands: how many bytes all lists have, and a sum over them; the nanoseconds of it.
 
 ghost use Rattle.std.specs.Prelude.{◌≡◌, ◌≤◌, ◌<◌, None, IfOk};
 ghost use Rattle.page_model.specs.Page.{HasKnownSource};
@@ -15,6 +15,7 @@ use std::sync::Arc;
 use std::time::Instant;
 
 const WIDTH: u16 = 612;
+
 const HEIGHT: u16 = 792;
 
 /// Words of a generator, in order.
@@ -147,7 +148,12 @@ fn case(rt: &HostRuntime, name: &str, page: &Page, rows: u32) -> io::Result<()>
     };
     let time = start.elapsed(rt)?.as_nanos();
     let sums = sums_of(&lists);
-    println!(rt; "split, {name}: {} bands, {} bytes, sum {}", lists.bands(), sums.bytes, sums.sum)?;
+    println!(rt;
+        "split, {name}: {} bands, {} bytes, sum {}",
+        lists.bands(),
+        sums.bytes,
+        sums.sum
+    )?;
     eprintln!(rt; "split, {name}: {time}")?;
     Ok(())
 }

@@ -1,11 +1,13 @@
 -- The list of a band while it is written. Own rule: words of the code alone.
-use Rattle.std.specs.Prelude.{◌≡◌, ℕ, ◌<◌, ◌-◌, ◌==◌, Bool, true, false, List, [], ◌∷◌, ◌++◌, length, slice_index_or, Option}
+use Rattle.std.specs.Prelude.{◌≡◌, ℕ, ◌<◌, ◌-◌, ◌==◌, Bool, true, false, List, [], ◌∷◌, ◌++◌, length, slice_index_or}
+use Rattle.std.specs.Prelude.{Option}
 use Rattle.std.specs.Prelude.{Some, None, if◌then◌else◌}
 use Rattle.std.specs.List.{filter, slice_get, AllByRecursion}
 use Rattle.page_model.specs.Marking.{MarkValue}
 use Rattle.list_codec.specs.Command.{CmdValue, IsCmd}
 use Rattle.band_writer.specs.Bands.{PlacedMark, held_marks, needs_of, mark_source}
 use Rattle.band_writer.specs.Listing.{Told, opening, change_cmds, told_after, list_cmds, spelled}
+use Rattle.band_writer.specs.Parts.{BandListValue}
 
 -- a list and its needs so far, and what the list said
 pub record DraftValue : Type 0 where
@@ -63,3 +65,9 @@ pub record IsAdded (holds : ℕ → Bool) (mark : MarkValue) (painted : List ℕ
   pub commands : (band : ℕ) (d : DraftValue) → band < length old → holds band ≡ true
       → AllByRecursion IsCmd (change_cmds (slice_index_or old band d).told mark)
   pub left : (band : ℕ) (d : DraftValue) → holds band ≡ false → slice_index_or new band d ≡ slice_index_or old band d
+
+-- drafts became lists with the numbers of their bands
+pub record AreNumbered (drafts : List DraftValue) (lists : List BandListValue) : Type 0 where
+  pub count : length lists ≡ length drafts
+  pub each : (band : ℕ) (draft : DraftValue) (list : BandListValue) → band < length drafts
+      → slice_index_or lists band list ≡ record { band = band; bytes = (slice_index_or drafts band draft).list }

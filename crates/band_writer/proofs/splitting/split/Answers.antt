@@ -11,7 +11,7 @@ pub add-requires-clause-few : goal.add-requires-clause-few
 add-requires-clause-few c =
     let marks = c.args.page.now.marks in
     let few : length marks ≤ 1000000 =
-        subst (λ (p : PageValue). length p.marks ≤ 1000000) c.page.view_is c.page.invariant.few in
+    subst (λ (p : PageValue). length p.marks ≤ 1000000) c.page.view_is c.page.invariant.few in
     let images = ap (λ (all : List ImageValue). length all) c.loop-mark.invariant.images in
     omega (arith, few, images, images_few (take c.loop-mark.mark-index marks), length-take c.loop-mark.mark-index marks)
 
@@ -27,7 +27,7 @@ loop-mark-preserved c =
 pub returns : goal.returns
 returns c =
     let marks = ap (λ (ms : List MarkValue). length ms)
-        (c.items-mark-items.ensures ∙ ap (λ (p : PageValue). p.marks) c.page.view_is) in
+    (c.items-mark-items.ensures ∙ ap (λ (p : PageValue). p.marks) c.page.view_is) in
     split_at_end c.of.result c.args.page.now c.args.height c.loop-mark.mark-index c.loop-mark.work _
     c.loop-mark.invariant (omega (arith, marks, c.loop-mark-test.false))
     (ap (λ (p : PageValue). parts_of p c.args.height c.loop-mark.work.images) c.page.view_is)
