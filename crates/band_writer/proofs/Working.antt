@@ -10,7 +10,7 @@ use Rattle.std.proofs.lemmas.Bool.{lt-ltb}
 use Rattle.std.proofs.lemmas.Bool.{le-ltb, lt-leb, false≢true, false_from_ne_true, cases_order, cases_lt}
 use Rattle.std.proofs.lemmas.List.{append-nil, get_or-replicate, length-replicate, get_or-set_same, get_or-set_other}
 use Rattle.std.proofs.lemmas.List.{length-set, length-map, get_or-map, get_or_default, take_more, take_all}
-use Rattle.std.proofs.lemmas.List.{length_push, get_or_push, get_or_append_left}
+use Rattle.std.proofs.lemmas.List.{length_push, get_or_push, get_or_append_left, map_push}
 use Rattle.std.proofs.lemmas.List.Concat.{flat_map-append}
 use Rattle.std.proofs.lemmas.List.FromFn.{fill_by_all}
 use Rattle.page_model.specs.Marking.{MarkValue, PaintValue, Flatly, Pictured, Masked}
@@ -200,6 +200,15 @@ numbered_more drafts lists new draft list so_far put is =
             ∙ ap (λ (x : DraftValue). made_list band x.list) (sym (get_or_push drafts draft d band last))
       ];
     }
+
+-- the needs of one more draft
+pub listed_more : (drafts : List DraftValue) (old new : List (List ℕ)) (draft : DraftValue) (sources : List ℕ)
+    → old ≡ map (λ (d : DraftValue). d.needs) drafts → new ≡ old ++ sources ∷ [] → sources ≡ draft.needs
+    → new ≡ map (λ (d : DraftValue). d.needs) (drafts ++ draft ∷ [])
+listed_more drafts old new draft sources so_far put is =
+    put ∙ ap (λ (all : List (List ℕ)). all ++ sources ∷ []) so_far
+    ∙ ap (λ (one : List ℕ). map (λ (d : DraftValue). d.needs) drafts ++ one ∷ []) is
+    ∙ sym (map_push (λ (d : DraftValue). d.needs) drafts draft)
 
 -- the lists and the needs of the drafts of a whole page are those of its split
 pub is_split : (page : PageValue) (band_rows : ℕ) (drafts : List DraftValue) (split : BandListsValue)
