@@ -14,6 +14,7 @@ mod path;
 mod profile;
 mod profiles;
 mod scan;
+mod split;
 mod store;
 mod stroke;
 mod wait;
@@ -54,13 +55,14 @@ enum Bench {
     Path,
     Profile,
     Scan,
+    Split,
     Store,
     Stroke,
     Wait,
     Waiting,
 }
 
-const ALL: [Bench; 12] = [
+const ALL: [Bench; 13] = [
     Bench::Cache,
     Bench::Colour,
     Bench::Fill,
@@ -69,6 +71,7 @@ const ALL: [Bench; 12] = [
     Bench::Path,
     Bench::Profile,
     Bench::Scan,
+    Bench::Split,
     Bench::Store,
     Bench::Stroke,
     Bench::Wait,
@@ -76,7 +79,7 @@ const ALL: [Bench; 12] = [
 ];
 
 const USAGE: &str = "speed: usage: speed \
-    all|cache|colour|fill|flow|image|path|profile|scan|store|stroke|wait|waiting";
+    all|cache|colour|fill|flow|image|path|profile|scan|split|store|stroke|wait|waiting";
 
 impl Bench {
     fn of(word: &str) -> Option<Bench> {
@@ -89,6 +92,7 @@ impl Bench {
             "path" => Some(Bench::Path),
             "profile" => Some(Bench::Profile),
             "scan" => Some(Bench::Scan),
+            "split" => Some(Bench::Split),
             "store" => Some(Bench::Store),
             "stroke" => Some(Bench::Stroke),
             "wait" => Some(Bench::Wait),
@@ -112,6 +116,7 @@ impl Bench {
             Bench::Path => path::run(rt, size),
             Bench::Profile => profile::run(rt),
             Bench::Scan => scan::run(rt, size),
+            Bench::Split => split::run(rt, size),
             Bench::Store => store::run(rt, size),
             Bench::Stroke => stroke::run(rt),
             Bench::Wait => wait::run(rt, threads, size),
