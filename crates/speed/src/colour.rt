@@ -4,9 +4,8 @@
 ghost use Rattle.std.specs.Prelude.{◌≡◌, ◌⊎◌, IsTrue};
 ghost use Rattle.icc_model.specs.Direct.{can_receive};
 
-use crate::link;
-use crate::no_memory;
 use crate::profiles::{Words, of_lattice, of_matrix};
+use crate::{link, no_memory};
 use icc_model::{Intent, Profile, direct};
 use press_fault::{Code, Mem};
 use std::alloc::Global;

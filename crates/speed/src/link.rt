@@ -58,7 +58,10 @@ pub(crate) fn case(
     let start = Instant::now(rt)?;
     let sum = sum_of(&link, codes);
     let time = start.elapsed(rt)?;
-    println!(rt; "colour, {name} by a link: {} colours, sum {sum}", codes.len())?;
+    println!(rt;
+        "colour, {name} by a link: {} colours, sum {sum}",
+        codes.len()
+    )?;
     eprintln!(rt; "colour, {name} by a link: {} ns", time.as_nanos())?;
     Ok(())
 }
