@@ -1,8 +1,7 @@
 -- The text of a sample page (the words are those of PCG XSH RR 64/32, of O'Neill, "PCG: a family of simple fast
 -- space-efficient statistically good algorithms for random number generation"). Own rules: what is drawn, and in which
 -- order.
-use Rattle.std.specs.Prelude.{ℕ, ◌+◌, ◌%◌, ◌==◌, List, [], ◌∷◌, ◌++◌, codes, if◌then◌else◌}
-use Rattle.std.specs.List.{fold, range_with_len}
+use Rattle.std.specs.Prelude.{ℕ, zero, suc, ◌+◌, ◌%◌, ◌==◌, List, [], ◌++◌, codes, if◌then◌else◌}
 use Rattle.std.specs.Fmt.{decimal}
 use Rattle.rand_pcg.specs.Lcg.{Lcg, started, increment_of}
 use Rattle.rand_pcg.specs.Pcg.{multiplier_64, pcg32}
@@ -46,9 +45,10 @@ with_line d i = if i % 10 == 9 then with_triangle d else with_rectangle d
 abbrev pub no_lines : ℕ → DraftValue
 no_lines n = record { text = []; words = started 64 multiplier_64 n (increment_of 64 1) }
 
--- so many lines
+-- so many lines from the first on
 unfoldable pub lines_of : ℕ → ℕ → DraftValue
-lines_of n count = fold with_line (no_lines n) (range_with_len 0 count)
+lines_of n zero = no_lines n
+lines_of n (suc i) = with_line (lines_of n i) i
 
 -- the text of the sample page with this number: 2,000 lines, and one that shows the page
 abbrev pub sample_text_of : ℕ → List ℕ

@@ -107,7 +107,7 @@ impl<'a> Choices<'a> {
 
     /// What is chosen once an option has its value; nothing where it was given before, or the value is none of its.
     pub(crate) fn with(self, choice: Choice, value: &'a str) -> Option<Choices<'a>>
-        requires { AreInRange self.entry }
+        requires { AreInRange self }
         ensures value { option_map chosen_so_far result ≡ chosen_with choice value.now (chosen_so_far self.entry) }
         ensures bounds { IfSome result AreInRange }
     {
@@ -170,7 +170,7 @@ impl<'a> Choices<'a> {
 
     /// What is chosen once a report is asked for; nothing where it was before.
     pub(crate) fn reported(self) -> Option<Choices<'a>>
-        requires { AreInRange self.entry }
+        requires { AreInRange self }
         ensures value { option_map chosen_so_far result ≡ reported (chosen_so_far self.entry) }
         ensures bounds { IfSome result AreInRange }
     {

@@ -1,5 +1,5 @@
 //! Texts cut at a byte, numbers in decimal, and the values of options.
-ghost use Rattle.std.specs.Prelude.{◌≡◌, ◌≤◌, ◌<◌, ◌^◌, length, IfSome, IsTrue};
+ghost use Rattle.std.specs.Prelude.{◌≡◌, ◌≤◌, ◌<◌, ◌^◌, true, length, IfSome, IsTrue};
 ghost use Rattle.std.specs.List.{list_all};
 ghost use Rattle.press_words.specs.Text.{cut_at, is_digit, are_digits, decimal_value, number_of};
 ghost use Rattle.press_words.specs.Values.{within, number_from, sides_of, eight_or_sixteen, depth_of, file_of};

@@ -1,11 +1,13 @@
 //! What the words of the command line ask for.
-ghost use Rattle.std.specs.Prelude.{◌≡◌, ◌≤◌, ◌*◌, Some, None, IfOk, IfSome, OnOk, is_some, map};
+ghost use Rattle.std.specs.Prelude.{◌≡◌, ◌≤◌, ◌*◌, Some, None, IfOk, [], ◌∷◌, ◌++◌, map};
 ghost use Rattle.std.specs.Option.{option_map};
 ghost use Rattle.press_words.specs.Values.{named_file_of};
 ghost use Rattle.press_words.specs.Grammar.{read};
-ghost use Rattle.press_words.specs.Options.{dots_of, page_within, page_of, page_chosen, with_named, name_next, named_in};
-ghost use Rattle.press_words.specs.Options.{program_in, settled, options_of};
-ghost use Rattle.press_words.specs.Code.Seen.{text_in, chosen_so_far, AreInRange};
+ghost use Rattle.press_words.specs.Options.{dots_of, page_within, page_of, page_chosen, name_next, named_in};
+ghost use Rattle.press_words.specs.Options.{program_in, settled, options_with, options_of};
+ghost use Rattle.std.specs.List.{list_any};
+ghost use Rattle.std.specs.Str.{bytes_eq};
+ghost use Rattle.press_words.specs.Code.Seen.{text_in, seen_file, chosen_so_far, AreInRange};
 
 use crate::choosing::Choices;
 use crate::lexing::{at_equals, file, is_name};
@@ -290,7 +292,8 @@ fn options_with<'a>(
     program: Option<&'a str>,
     named: Vec<NamedFile<'a>>,
 ) -> Options<'a>
-    ensures { result ≡ options_with (chosen_so_far chosen.now) page (text_in program.entry) (map seen_file named.entry.items) }
+    ensures { result ≡ options_with (chosen_so_far chosen.now) page (text_in program.entry)
+        (map seen_file named.entry.items) }
 {
     Options {
         size: chosen.size.unwrap_or(SIZE),

@@ -158,7 +158,7 @@ impl<'a> Reading<'a> {
 
     /// What was chosen with an option more; a refusal where there is none.
     fn choose(&mut self, chosen: Option<Choices<'a>>) -> Result<(), WordsFault>
-        requires { IfSome chosen.entry AreInRange }
+        requires { IfSome chosen AreInRange }
         ensures ok { OnOk result (chose self.old (option_map chosen_so_far chosen.entry) ≡ Some self.new) }
         ensures usage { result ≡ Err WordsFault.Usage → chose self.old (option_map chosen_so_far chosen.entry) ≡ None }
     {
