@@ -1,7 +1,7 @@
 -- One more word, as a fold that may stop reads it.
 use Rattle.std.proofs.Common.{◌≡◌, ◌<◌, ◌+◌, ◌∙◌, ap, sym, subst, take, map, length, get_or, List, [], ℕ, arith}
-use Rattle.std.proofs.Common.{Option, None}
-use Rattle.std.specs.List.{fold}
+use Rattle.std.proofs.Common.{◌∷◌, Option, None, Bool, ◌||◌, refl}
+use Rattle.std.specs.List.{fold, list_any}
 use Rattle.std.proofs.lemmas.List.{length-map, get_or-map}
 use Rattle.std.proofs.lemmas.List.Sums.{fold_more}
 use Rattle.std.proofs.lemmas.List.Folds.{fold_stuck}
@@ -32,3 +32,9 @@ pub stops_there : {S : Type 0} (step : Option S → List ℕ → Option S) → (
 stops_there step stays start before words i word here b a =
     sym (fold_stuck step None stays start words i [] here.0
         (ap (λ r. step r (get_or words i [])) (sym b) ∙ (ap (step before) (sym here.1) ∙ a)))
+
+-- whether some item of a mapped list passes is whether some item passes once it is mapped
+pub any_mapped : {X Y : Type 0} (p : Y → Bool) (h : X → Y) (xs : List X)
+    → list_any p (map h xs) ≡ list_any (λ x. p (h x)) xs
+any_mapped p h [] = refl
+any_mapped p h (x ∷ xs) = ap (λ rest. p (h x) || rest) (any_mapped p h xs)

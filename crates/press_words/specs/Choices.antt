@@ -4,8 +4,8 @@ use Rattle.std.specs.Prelude.{ℕ, Bool, true, false, List, Option, Some, None, 
 use Rattle.std.specs.Option.{option_map}
 use Rattle.std.specs.Str.{bytes_eq}
 use Rattle.press_words.specs.declared.choosing.Choice.{Choice}
-use Rattle.press_words.specs.declared.choosing.Choice.TheVariants.{Size, Res, Band, Workers, Cache, Intent, Output, Gray}
-use Rattle.press_words.specs.declared.choosing.Choice.TheVariants.{Rgb, Cmyk, Report, Sample, Rehearse, Depth}
+use Rattle.press_words.specs.declared.choosing.Choice.TheVariants.{Size, Res, Band, Workers, Cache, Intent, Output}
+use Rattle.press_words.specs.declared.choosing.Choice.TheVariants.{Gray, Rgb, Cmyk, Report, Sample, Rehearse, Depth}
 use Rattle.press_words.specs.Values.{number_from, sides_of, depth_of, file_of}
 
 -- the option of a name

@@ -1,5 +1,5 @@
--- The words of the command line, one after the other. Own rule: an option is `--x v` or `--x=v`; in the first form v is a
--- dash alone or doesn't begin with a dash. `--` ends the options, and a word that is a dash alone is none.
+-- The words of the command line, one after the other. Own rule: an option is `--x v` or `--x=v`; in the first form v
+-- is a dash alone or doesn't begin with a dash. `--` ends the options, and a word that is a dash alone is none.
 use Rattle.std.specs.Prelude.{ℕ, ◌==◌, Bool, true, not, List, [], ◌∷◌, ◌++◌, Option, Some, None}
 use Rattle.std.specs.Prelude.{if◌then◌else◌, codes}
 use Rattle.std.specs.List.{fold}

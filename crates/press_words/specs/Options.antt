@@ -1,6 +1,6 @@
--- What the words of the command line ask for. Own rules: without `--sample` the first positional word is the program; the
--- others are NAME=FILE, at most 16 and with distinct names; a side of the page has at least one dot, at most 16,384, and
--- the page at most 67,108,864.
+-- What the words of the command line ask for. Own rules: without `--sample` the first positional word is the program;
+-- the others are NAME=FILE, at most 16 and with distinct names; a side of the page has at least one dot, at most
+-- 16,384, and the page at most 67,108,864.
 use Rattle.std.specs.Prelude.{ℕ, ◌+◌, ◌*◌, ◌/◌, Bool, true, false, not, ◌&&◌, max, List, [], ◌∷◌, ◌++◌, length}
 use Rattle.std.specs.Prelude.{Option, Some, None, is_some, nat_le, nat_lt, if◌then◌else◌}
 use Rattle.std.specs.Option.{option_map, option_and_then}
@@ -18,9 +18,9 @@ pub record PageSizeValue : Type 0 where
   pub height : ℕ
   pub res : ℕ
 
--- what the words ask for: the sides of the page in points and in dots, the rows of a band, the workers, the links that
--- are kept, the rendering intent, the files of profiles, the program, whether a report is wanted, the number of a sample
--- page and of a rehearsal, the named profiles in the order of the words, and the bits of a sample
+-- what the words ask for: the sides of the page in points and in dots, the rows of a band, the workers, the links
+-- that are kept, the rendering intent, the files of profiles, the program, whether a report is wanted, the number of
+-- a sample page and of a rehearsal, the named profiles in the order of the words, and the bits of a sample
 pub record OptionsValue : Type 0 where
   pub size : ℕ × ℕ
   pub page : PageSizeValue
@@ -119,7 +119,8 @@ with_program c (Some parts) = option_and_then (λ page. option_map (options_with
 
 -- what words that were read ask for
 abbrev pub settled : ReadingValue → Option OptionsValue
-settled r = if is_complete r.next then with_program r.chosen (program_in (is_some r.chosen.sample) r.positionals) else None
+settled r =
+    if is_complete r.next then with_program r.chosen (program_in (is_some r.chosen.sample) r.positionals) else None
 
 -- what the words ask for: none where they aren't in the grammar
 unfoldable pub options_of : List (List ℕ) → Option OptionsValue

@@ -1,8 +1,7 @@
--- The values of options, and the named profiles. Own rules: sizes are in points of 1/72 inch, NAME and FILE are cut at the
--- first `=`, and no file name is empty.
-use Rattle.std.specs.Prelude.{ℕ, ◌==◌, Bool, true, false, ◌&&◌, ◌||◌, List, [], ◌∷◌, length, Option, Some, None}
+-- The values of options, and the named profiles. Own rules: sizes are in points of 1/72 inch, NAME and FILE are cut
+-- at the first `=`, and no file name is empty.
+use Rattle.std.specs.Prelude.{ℕ, ◌==◌, Bool, ◌&&◌, ◌||◌, List, length, Option, Some, None}
 use Rattle.std.specs.Prelude.{if◌then◌else◌, nat_le, nat_lt}
-use Rattle.std.specs.Option.{option_and_then}
 use Rattle.std.specs.List.{list_all}
 use Rattle.press_words.specs.Text.{cut_at, number_of, is_digit}
 
@@ -40,8 +39,7 @@ depth_of text = eight_or_sixteen (number_of text)
 
 -- a file's name, which isn't empty
 abbrev pub file_of : List ℕ → Option (List ℕ)
-file_of [] = None
-file_of (c ∷ cs) = Some (c ∷ cs)
+file_of text = if nat_lt 0 (length text) then Some text else None
 
 -- whether a byte may stand in a profile's name: a letter or a digit of ASCII, a dash, or an underscore
 abbrev pub is_name_byte : ℕ → Bool

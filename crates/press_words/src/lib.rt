@@ -1,7 +1,7 @@
 //! What the words of the command line ask for, the text of a sample page, and the lines of a report.
 //!
-//! Proved against `specs/Grammar.antt` and `specs/Options.antt` (the words), `specs/Sample.antt` and `specs/Lines.antt`.
-//! Start with `options.rt`; the options and their values stand in `choosing.rt`.
+//! Proved against `specs/Grammar.antt` and `specs/Options.antt` (the words), `specs/Sample.antt` and
+//! `specs/Lines.antt`. Start with `options.rt`; the options and their values stand in `choosing.rt`.
 #![tactic(auto)]
 
 mod choosing;

