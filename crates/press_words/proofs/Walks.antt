@@ -31,7 +31,7 @@ pub stops_there : {S : Type 0} (step : Option S → List ℕ → Option S) → (
     → before ≡ fold step start (take i words) → step before word ≡ None → fold step start words ≡ None
 stops_there step stays start before words i word here b a =
     sym (fold_stuck step None stays start words i [] here.0
-        (ap (λ r. step r (get_or words i [])) (sym b) ∙ (ap (step before) (sym here.1) ∙ a)))
+    (ap (λ r. step r (get_or words i [])) (sym b) ∙ (ap (step before) (sym here.1) ∙ a)))
 
 -- whether some item of a mapped list passes is whether some item passes once it is mapped
 pub any_mapped : {X Y : Type 0} (p : Y → Bool) (h : X → Y) (xs : List X)

@@ -27,7 +27,10 @@ pub(crate) fn sides(size: &str) -> Option<(u32, u32)>
     ensures height { IfSome result (λ sides. sides.1 ≤ 14400) }
 {
     let (width, height) = at_x(size)?;
-    match (number_from(width, 1, 14_400), number_from(height, 1, 14_400)) {
+    match (
+        number_from(width, 1, 14_400),
+        number_from(height, 1, 14_400),
+    ) {
         (Some(width), Some(height)) => Some((width, height)),
         _ => None,
     }

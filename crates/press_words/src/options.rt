@@ -178,7 +178,8 @@ fn settled<'a>(alloc: Global, reading: &Reading<'a>) -> Result<Options<'a>, Word
     if !is_complete(reading.next) {
         return Err(WordsFault::Usage);
     }
-    let Some((program, words)) = program_in(reading.chosen.sample.is_some(), &reading.positionals) else {
+    let Some((program, words)) = program_in(reading.chosen.sample.is_some(), &reading.positionals)
+    else {
         return Err(WordsFault::Usage);
     };
     let Some(page) = page_chosen(&reading.chosen) else {
@@ -200,7 +201,10 @@ fn is_complete(next: Next) -> bool
 }
 
 /// The program, and the words behind it. With a sample page there is no program.
-fn program_in<'a, 'b>(is_sample: bool, words: &'b [&'a str]) -> Option<(Option<&'a str>, &'b [&'a str])>
+fn program_in<'a, 'b>(
+    is_sample: bool,
+    words: &'b [&'a str],
+) -> Option<(Option<&'a str>, &'b [&'a str])>
     ensures { option_map (λ parts. (text_in parts.0, map (λ word. word.now) parts.1.now)) result
         ≡ program_in is_sample (map (λ word. word.now) words.now) }
 {

@@ -108,7 +108,8 @@ impl Draft {
         ensures { OnOk result (self.new ≡ with_number below more behind.now self.old) }
     {
         let number = self.words.next_word() % below + more;
-        self.text.extend_from_slice(Buffer::new().format(number).as_bytes())?;
+        self.text
+            .extend_from_slice(Buffer::new().format(number).as_bytes())?;
         self.text.extend_from_slice(behind)?;
         Ok(())
     }

@@ -95,10 +95,22 @@ fn each_option_has_its_value(rt: HostRuntime) -> Result<(), Fail> {
     let Some(options) = options else {
         return Err(Fail::new("refused"));
     };
-    assert_eq!(rt; (options.page.width, options.page.height, options.page.res), (1224, 1584, 144));
-    assert_eq!(rt; (options.band, options.workers, options.cache, options.intent), (3, 0, 64, 2));
-    assert_eq!(rt; (options.depth, options.rehearse, options.report), (16, Some(7), false));
-    assert_eq!(rt; (options.gray, options.rgb, options.program), (Some("g"), None, Some("p.ps")));
+    assert_eq!(rt;
+        (options.page.width, options.page.height, options.page.res),
+        (1224, 1584, 144)
+    );
+    assert_eq!(rt;
+        (options.band, options.workers, options.cache, options.intent),
+        (3, 0, 64, 2)
+    );
+    assert_eq!(rt;
+        (options.depth, options.rehearse, options.report),
+        (16, Some(7), false)
+    );
+    assert_eq!(rt;
+        (options.gray, options.rgb, options.program),
+        (Some("g"), None, Some("p.ps"))
+    );
     let named = options.named.first().map(|named| (named.name, named.file));
     assert_eq!(rt; (named, options.named.len()), (Some(("n", "f")), 1));
     Ok(())
@@ -115,7 +127,8 @@ fn the_text_of_a_sample_page(rt: HostRuntime) -> Result<(), Fail> {
     let line = sample_line(1, text.len() as u64, &digest(&text));
     // As `tests/model/command_line.py` has it; from that text an independent drawing made the page of 1,454,127 bytes
     // whose digest was known beforehand.
-    let expected = b"render: sample 1 bytes 136227 md5 e346922f762a1b869428522a15cd9a4b\n".as_slice();
+    let expected =
+        b"render: sample 1 bytes 136227 md5 e346922f762a1b869428522a15cd9a4b\n".as_slice();
     assert_eq!(rt; line.bytes(), expected);
     Ok(())
 }
@@ -131,7 +144,8 @@ fn the_lines_of_a_report(rt: HostRuntime) -> Result<(), Fail> {
         resident: 1,
         stale: 0,
     };
-    let expected = b"render: pages 1 leases 6 keys 2 built 5 evicted 4 resident 1 stale 0\n".as_slice();
+    let expected =
+        b"render: pages 1 leases 6 keys 2 built 5 evicted 4 resident 1 stale 0\n".as_slice();
     assert_eq!(rt; report_line(&counts).bytes(), expected);
     let expected = b"render: sample 1 bytes 0 md5 d41d8cd98f00b204e9800998ecf8427e\n".as_slice();
     assert_eq!(rt; sample_line(1, 0, &digest(b"")).bytes(), expected);

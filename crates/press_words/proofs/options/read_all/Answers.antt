@@ -7,6 +7,6 @@ use Rattle.press_words.proofs.options.read_all.Goals as goal
 pub loop-word-preserved : goal.loop-word-preserved
 loop-word-preserved c =
     let here = word_here string_bytes c.items-word-items.result.now c.args.words.now c.loop-word.word-index
-        c.word-item.result _ c.items-word-items.ensures c.loop-word-test.true c.word-item.is c.as_str.ensures.value in
+    c.word-item.result _ c.items-word-items.ensures c.loop-word-test.true c.word-item.is c.as_str.ensures.value in
     reads_more read_next (Some no_words) _ _ c.args.words.now c.loop-word.word-index _ here c.loop-word.invariant
-        c.in_ok-read_word.ensures.ok
+    c.in_ok-read_word.ensures.ok
