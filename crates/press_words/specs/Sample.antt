@@ -12,28 +12,28 @@ pub record DraftValue : Type 0 where
   pub words : Lcg
 
 -- one number more, in decimal, and the text behind it: the generator's next word modulo `below`, and `more`
-abbrev pub with_number : ℕ → ℕ → List ℕ → DraftValue → DraftValue
+unfoldable pub with_number : ℕ → ℕ → List ℕ → DraftValue → DraftValue
 with_number below more behind d = record {
   text = d.text ++ (decimal ((pcg32 d.words).0 % below + more) ++ behind);
   words = (pcg32 d.words).1;
 }
 
 -- a point of the page, in points of 1/72 inch, and the text behind it
-abbrev pub with_point : List ℕ → DraftValue → DraftValue
+unfoldable pub with_point : List ℕ → DraftValue → DraftValue
 with_point behind d = with_number 792 0 behind (with_number 612 0 (codes " ") d)
 
 -- a line that fills a triangle
-abbrev pub with_triangle : DraftValue → DraftValue
+unfoldable pub with_triangle : DraftValue → DraftValue
 with_triangle d =
     with_point (codes " lineto fill\n") (with_point (codes " lineto ") (with_point (codes " moveto ") d))
 
 -- a colour of three parts of 255, and the operator behind it
-abbrev pub with_colour : DraftValue → DraftValue
+unfoldable pub with_colour : DraftValue → DraftValue
 with_colour d = with_number 256 0 (codes " 255 div setrgbcolor ")
     (with_number 256 0 (codes " 255 div ") (with_number 256 0 (codes " 255 div ") d))
 
 -- a line that fills a rectangle in a colour of its own; a side has 1 to 200 points
-abbrev pub with_rectangle : DraftValue → DraftValue
+unfoldable pub with_rectangle : DraftValue → DraftValue
 with_rectangle d =
     with_number 200 1 (codes " rectfill\n") (with_number 200 1 (codes " ") (with_point (codes " ") (with_colour d)))
 

@@ -67,6 +67,7 @@ impl Draft {
         }
     }
 
+    #[tactic(auto, unfolding(crate::specs::Sample::with_triangle))]
     fn add_triangle(&mut self) -> Mem<()>
         ensures { OnOk result (self.new ≡ with_triangle self.old) }
     {
@@ -76,6 +77,7 @@ impl Draft {
     }
 
     /// A rectangle in a colour of its own; a side has 1 to 200 points.
+    #[tactic(auto, unfolding(crate::specs::Sample::with_rectangle))]
     fn add_rectangle(&mut self) -> Mem<()>
         ensures { OnOk result (self.new ≡ with_rectangle self.old) }
     {
@@ -85,6 +87,7 @@ impl Draft {
         self.add_number(200, 1, b" rectfill\n")
     }
 
+    #[tactic(auto, unfolding(crate::specs::Sample::with_colour))]
     fn add_colour(&mut self) -> Mem<()>
         ensures { OnOk result (self.new ≡ with_colour self.old) }
     {
@@ -94,6 +97,7 @@ impl Draft {
     }
 
     /// A point of the page, in points of 1/72 inch, and the text behind it.
+    #[tactic(auto, unfolding(crate::specs::Sample::with_point))]
     fn add_point(&mut self, behind: &[u8]) -> Mem<()>
         ensures { OnOk result (self.new ≡ with_point behind.now self.old) }
     {
@@ -102,6 +106,7 @@ impl Draft {
     }
 
     /// One number more, in decimal, and the text behind it: the generator's next word modulo `below`, and `more`.
+    #[tactic(auto, unfolding(crate::specs::Sample::with_number))]
     fn add_number(&mut self, below: u32, more: u32, behind: &[u8]) -> Mem<()>
         requires some { 0 < below }
         requires bound { below + more ≤ 2 ^ 32 }
