@@ -274,7 +274,6 @@ fn named_in<'a>(alloc: Global, words: &[&'a str]) -> Result<Vec<NamedFile<'a>>, 
 }
 
 /// The named profile of a word, where there is room for it and its name is new.
-#[tactic(auto, using(crate::proofs::Walks::any_mapped))]
 fn named_after<'a>(named: &[NamedFile<'_>], word: &'a str) -> Option<NamedFile<'a>>
     ensures { option_map (λ file. map seen_file named.now ++ seen_file file ∷ []) result
         ≡ name_next (Some (map seen_file named.now)) word.now }
@@ -287,10 +286,23 @@ fn named_after<'a>(named: &[NamedFile<'_>], word: &'a str) -> Option<NamedFile<'
     }
 }
 
+/// Whether a name stands among these.
 fn is_taken(named: &[NamedFile<'_>], name: &str) -> bool
+    ensures { result ≡ list_any (λ other. bytes_eq other.name name.now) (map seen_file named.now) }
+{
+    any_has(named, name)
+}
+
+fn any_has(named: &[NamedFile<'_>], name: &str) -> bool
     ensures { result ≡ list_any (λ other. bytes_eq other.name.now name.now) named.now }
 {
-    named.iter().any(|other| other.name == name)
+    named.iter().any(|other| has_name(other, name))
+}
+
+fn has_name(other: &NamedFile<'_>, name: &str) -> bool
+    ensures { result ≡ bytes_eq other.now.name.now name.now }
+{
+    other.name == name
 }
 
 /// The name and the file of a word such as `camera=camera.icc`.

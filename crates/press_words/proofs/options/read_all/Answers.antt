@@ -1,6 +1,6 @@
-use Rattle.std.proofs.Common.{Some}
+use Rattle.std.proofs.Common.{Some, refl}
 use Rattle.std.specs.String.{string_bytes}
-use Rattle.press_words.specs.Grammar.{no_words, read_next}
+use Rattle.press_words.specs.Grammar.{no_words, read_next, read}
 use Rattle.press_words.proofs.Walks.{word_here, reads_more, stops_there}
 use Rattle.press_words.proofs.options.read_all.Goals as goal
 
@@ -10,3 +10,11 @@ loop-word-preserved c =
     c.word-item.result _ c.items-word-items.ensures c.loop-word-test.true c.word-item.is c.as_str.ensures.value in
     reads_more read_next (Some no_words) _ _ c.args.words.now c.loop-word.word-index _ here c.loop-word.invariant
     c.in_ok-read_word.ensures.ok
+
+pub returns-in_err-read_word-clause-usage : goal.returns-in_err-read_word-clause-usage
+unfolding read
+returns-in_err-read_word-clause-usage c = λ e.
+    let here = word_here string_bytes c.items-word-items.result.now c.args.words.now c.loop-word.word-index
+    c.word-item.result _ c.items-word-items.ensures c.loop-word-test.true c.word-item.is c.as_str.ensures.value in
+    stops_there read_next (λ _. refl) (Some no_words) _ c.args.words.now c.loop-word.word-index _ here
+    c.loop-word.invariant (c.in_err-read_word.ensures.usage e)
