@@ -10,5 +10,6 @@ pub named_more : (named lent after : List NamedFile) (file : NamedFile) (word : 
     → Some (map seen_file lent ++ seen_file file ∷ []) ≡ name_next (Some (map seen_file lent)) word
     → after ≡ named ++ file ∷ [] → name_next (Some (map seen_file named)) word ≡ Some (map seen_file after)
 named_more named lent after file word same step grew =
-    sym (subst (λ xs. Some (map seen_file xs ++ seen_file file ∷ []) ≡ name_next (Some (map seen_file xs)) word) same step)
+    sym (subst (λ xs. Some (map seen_file xs ++ seen_file file ∷ []) ≡ name_next (Some (map seen_file xs)) word)
+    same step)
     ∙ ap Some (sym (map-append seen_file named (file ∷ [])) ∙ ap (map seen_file) (sym grew))

@@ -10,7 +10,8 @@ use Rattle.press_words.proofs.options.named_in.Goals as goal
 pub loop-word-preserved : goal.loop-word-preserved
 loop-word-preserved c =
     let d : Bor (List ℕ) = record { ref_ptr = (0, 0); now = [] } in
-    let here = word_here (λ (w : Bor (List ℕ)). w.now) c.args.words.now (map (λ (w : Bor (List ℕ)). w.now) c.args.words.now)
+    let here = word_here (λ (w : Bor (List ℕ)). w.now) c.args.words.now
+    (map (λ (w : Bor (List ℕ)). w.now) c.args.words.now)
     c.loop-word.word-index (get_or c.args.words.now c.loop-word.word-index d) _ refl c.loop-word-test.true refl refl in
     let step = named_more c.loop-word.named.items c.deref.result.now _ _ _
     c.deref.ensures.value c.in-Some.ensures c.in_ok-push.ensures.items in
@@ -20,7 +21,8 @@ pub returns-in_default-clause-usage : goal.returns-in_default-clause-usage
 unfolding named_in
 returns-in_default-clause-usage c = λ _.
     let d : Bor (List ℕ) = record { ref_ptr = (0, 0); now = [] } in
-    let here = word_here (λ (w : Bor (List ℕ)). w.now) c.args.words.now (map (λ (w : Bor (List ℕ)). w.now) c.args.words.now)
+    let here = word_here (λ (w : Bor (List ℕ)). w.now) c.args.words.now
+    (map (λ (w : Bor (List ℕ)). w.now) c.args.words.now)
     c.loop-word.word-index (get_or c.args.words.now c.loop-word.word-index d) _ refl c.loop-word-test.true refl refl in
     let step = subst (λ (xs : List NamedFile). None ≡ name_next (Some (map seen_file xs))
     (get_or c.args.words.now c.loop-word.word-index d).now) c.deref.ensures.value c.in_default.ensures in
