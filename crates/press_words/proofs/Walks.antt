@@ -16,6 +16,13 @@ word_here f items words i x word m h is w =
     let low : i < length (map f items) = omega (arith, long, h) in
     (subst (λ ws. i < length ws) m low, subst (λ ws. word ≡ get_or ws i []) m here)
 
+-- the item at a place is, once it is mapped, the word there
+pub mapped_here : {X : Type 0} (f : X → List ℕ) (items : List X) (i : ℕ) (d : X) → i < length items
+    → (i < length (map f items)) × (f (get_or items i d) ≡ get_or (map f items) i [])
+mapped_here f items i d h =
+    let long : length (map f items) ≡ length items = length-map items f in
+    (omega (arith, long, h), sym (get_or-map f items i d [] h))
+
 -- a word that is read is one step more of the fold
 pub reads_more : {S : Type 0} (step : Option S → List ℕ → Option S) (start before after : Option S)
     (words : List (List ℕ)) (i : ℕ) (word : List ℕ) → (i < length words) × (word ≡ get_or words i [])
