@@ -18,5 +18,6 @@ returns-in_err-read_word-clause-usage c =
     let p = err_from_is_err_and c.from_residual.result c.from_residual.ensures.1 in
     let here = word_here string_bytes c.items-word-items.result.now c.args.words.now c.loop-word.word-index
     c.word-item.result _ c.items-word-items.ensures c.loop-word-test.true c.word-item.is c.as_str.ensures.value in
-    rw (p.1, p.2) (λ e. stops_there read_next (λ _. refl) (Some no_words) _ c.args.words.now c.loop-word.word-index _ here
+    rw (p.1, p.2) (λ e. stops_there read_next (λ _. refl) (Some no_words) _ c.args.words.now c.loop-word.word-index _
+    here
     c.loop-word.invariant (c.in_err-read_word.ensures.usage e))
