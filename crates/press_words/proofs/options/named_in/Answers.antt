@@ -12,7 +12,7 @@ loop-word-preserved c =
     let d : Bor (List ℕ) = record { ref_ptr = (0, 0); now = [] } in
     let i = c.loop-word.word-index in
     let here = mapped_here (λ (w : Bor (List ℕ)). w.now) c.args.words.now i d c.loop-word-test.true in
-    let step = named_more c.loop-word.named.items c.deref.result.now _ _ _
+    let step = named_more c.loop-word.named.items c.deref.result.now _ _ (get_or c.args.words.now i d).now
     c.deref.ensures.value c.in-Some.ensures c.in_ok-push.ensures.items in
     reads_more name_next (Some []) _ _ _ i _ here c.loop-word.invariant step
 
