@@ -1,5 +1,5 @@
 -- How the code keeps what the words ask for. Own rule: words of the code alone.
-use Rattle.std.specs.Prelude.{◌≤◌, ◌*◌, ℕ, List, Option, Some, None, IfSome}
+use Rattle.std.specs.Prelude.{◌≤◌, ◌*◌, ℕ, List, Option, IfSome}
 use Rattle.std.specs.Option.{option_map}
 use Rattle.std.specs.Borrow.{Bor}
 use Rattle.press_words.specs.declared.choosing.Choices.{Choices as Chosen}

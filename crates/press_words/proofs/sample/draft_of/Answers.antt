@@ -1,4 +1,4 @@
-use Rattle.std.proofs.Common.{◌∙◌, ap, refl, add-one}
+use Rattle.std.proofs.Common.{◌∙◌, ap, add-one, rules}
 use Rattle.press_words.specs.Sample.{with_line, lines_of}
 use Rattle.press_words.proofs.sample.draft_of.Goals as goal
 
