@@ -135,6 +135,22 @@ impl Gather {
         self.rows.count
     }
 
+    /// How the data are read.
+    pub fn format(&self) -> &SampleFormat
+        ensures { result.now ≡ self.now.format }
+    {
+        &self.format
+    }
+
+    /// How many codes the rows have that came whole.
+    pub fn codes(&self) -> usize
+        ensures count { result ≡ length self.now.codes }
+        ensures size { result ≡ self.now.format.width * self.now.format.channels * self.now.rows }
+        ensures few { result ≤ 67108864 }
+    {
+        self.rows.codes.len()
+    }
+
     /// The codes of the rows that came whole, and no others. It takes no memory.
     pub fn finish(self) -> Bytes
         ensures value { result ≡ self.codes }
