@@ -103,6 +103,7 @@ impl Gather {
         ensures taken { IfOk result (λ n. n ≡ min (length bytes.now) (missing self.old)) }
         ensures ok { IfOk result (λ n. self.new ≡ fed self.old (take n bytes.now)) }
         ensures left { IfOk result (λ n. missing self.new ≡ missing self.old - n) }
+        ensures format { self.new.format ≡ self.old.format }
         ensures err { OnErr result (self.new ≡ self.old) }
     {
         let (taken, _) = bytes.split_at(bytes.len().min(self.missing()));
@@ -137,7 +138,8 @@ impl Gather {
 
     /// How the data are read.
     pub fn format(&self) -> &SampleFormat
-        ensures { result.now ≡ self.now.format }
+        ensures value { result.now ≡ self.now.format }
+        ensures channels { (result.now.channels ≡ 1) ⊎ (result.now.channels ≡ 3) ⊎ (result.now.channels ≡ 4) }
     {
         &self.format
     }

@@ -63,6 +63,19 @@ impl Flow {
         self.items.push(level);
     }
 
+    /// Opens a level, refused where all levels are open.
+    fn open_within(&mut self, level: Level) -> Result<(), ExecStackOverflow>
+        ensures ok { OnOk result (self.new ≡ level ∷ self.old) }
+        ensures full { IsErr result ↔ (250 ≤ length self.old) }
+        ensures err { OnErr result (self.new ≡ self.old) }
+    {
+        if self.is_full() {
+            return Err(ExecStackOverflow);
+        }
+        self.open(level);
+        Ok(())
+    }
+
     /// Opens a level that runs the elements of a procedure, as for one found by a name. Where
     /// all levels are open it is refused, and they are as before.
     pub fn call(&mut self, p: Part) -> Result<(), ExecStackOverflow>
@@ -70,11 +83,7 @@ impl Flow {
         ensures full { IsErr result ↔ (250 ≤ length self.old) }
         ensures err { OnErr result (self.new ≡ self.old) }
     {
-        if self.is_full() {
-            return Err(ExecStackOverflow);
-        }
-        self.open(Level::Procedure(p));
-        Ok(())
+        self.open_within(Level::Procedure(p))
     }
 
     /// Opens a level that runs the elements of a procedure for an operator, which goes on when it has
@@ -85,11 +94,7 @@ impl Flow {
         ensures full { IsErr result ↔ (250 ≤ length self.old) }
         ensures err { OnErr result (self.new ≡ self.old) }
     {
-        if self.is_full() {
-            return Err(ExecStackOverflow);
-        }
-        self.open(Level::Guarded(p));
-        Ok(())
+        self.open_within(Level::Guarded(p))
     }
 
     /// How many levels are procedures that operators called.

@@ -1,8 +1,8 @@
 -- What an image operator refuses of what it is told (PostScript Language Reference, third edition, 4.10.5 Image
 -- Dictionaries). Own rules: rangecheck before undefinedresult before limitcheck; each element of both matrices is below
 -- 2^20; the samples of the whole height have to have room on the page, whatever comes of them.
-use Rattle.std.specs.Prelude.{ℕ, ℤ, pos, ◌*◌, ◌-ℤ◌, ◌==◌, ◌&&◌, ◌||◌, ◌^◌, Bool, true, false, List, [], ◌∷◌, length, map, not}
-use Rattle.std.specs.Prelude.{nat_lt, int_lt, unsigned_abs, Option, Some, None, Result, Ok, Err}
+use Rattle.std.specs.Prelude.{ℕ, ℤ, pos, ◌*◌, ◌-ℤ◌, ◌==◌, ◌&&◌, ◌||◌, Bool, true, false, List, [], ◌∷◌, length, map, not}
+use Rattle.std.specs.Prelude.{int_lt, unsigned_abs, Option, Some, None, Result, Ok, Err}
 use Rattle.std.specs.Prelude.{if◌then◌else◌}
 use Rattle.std.specs.List.{repeat}
 use Rattle.press_fault.specs.declared.names.PsName.{PsName}
@@ -16,6 +16,7 @@ use Rattle.ps_gfx_ops.specs.Matrices.{matrix_of}
 use Rattle.ps_gfx_ops.specs.Lines.{number_in}
 use Rattle.gfx_state.specs.CurrentPage.{has_sample_room}
 use Rattle.gfx_state.specs.Graphics.{GfxValue}
+use Rattle.img_map.specs.Map.{is_small}
 use Rattle.img_samples.specs.Decoding.{SampleFormatValue, mask_format}
 use Rattle.ps_image_ops.specs.declared.conditions.Sampling.{Sampling}
 use Rattle.ps_image_ops.specs.declared.parameters.Decode.{Decode}
@@ -51,16 +52,6 @@ abbrev pub sampling_of : Bool → Parameters → StoreValue → Result Sampling 
 sampling_of mask told s =
     sampling_by (size_of told.width) (size_of told.height) (depth_of mask told.bits)
     (is_whole_decode s told.channels told.decode) (matrix_of (objects_of s told.matrix))
-
--- whether an element is below 2^20
-abbrev pub is_small_element : ℤ → Bool
-is_small_element raw = nat_lt (unsigned_abs raw) (2 ^ 36)
-
--- whether each element of a matrix is below 2^20
-abbrev pub is_small : MatrixValue → Bool
-is_small m =
-    is_small_element m.a && is_small_element m.b && is_small_element m.c && is_small_element m.d
-    && is_small_element m.tx && is_small_element m.ty
 
 -- what the current matrix and the page refuse of a sampling: undefinedresult where the matrix has no inverse, else
 -- limitcheck where an element is too large or the page has no room

@@ -2,8 +2,7 @@
 -- and 4.10.6 Masked Images: stencil masking). Own rules: the matrix and the channels are those of the operator's start,
 -- the clip, a mask's colour and the page those of the moment when the rows have come; only rows that came whole are
 -- painted, and without one there is no mark.
-use Rattle.std.specs.Prelude.{ℕ, ◌==◌, List, Option, Some, None, take, if◌then◌else◌}
-use Rattle.std.specs.List.{repeat}
+use Rattle.std.specs.Prelude.{ℕ, zero, suc, ◌==◌, List, Option, Some, None, take, if◌then◌else◌}
 use Rattle.geo_matrix.specs.Affine.{MatrixValue}
 use Rattle.page_model.specs.Image.{ImageValue}
 use Rattle.ps_store.specs.declared.oper.ImageOp.{ImageOp}
@@ -28,9 +27,15 @@ lacks r = missing r.gather
 abbrev pub read_on : ReadingValue → List ℕ → ReadingValue
 read_on r bytes = record r { gather = fed r.gather (take (lacks r) bytes) }
 
--- with the bytes of a string over and over, until it takes no more; an empty string gives nothing
+-- with a string read so many times, each time as many of its bytes as it takes
+unfoldable pub read_times : ℕ → ReadingValue → List ℕ → ReadingValue
+read_times zero r bytes = r
+read_times (suc n) r bytes = read_times n (read_on r bytes) bytes
+
+-- with the bytes of a string over and over, until it takes no more, for which as many times suffice as it takes bytes;
+-- an empty string gives nothing
 abbrev pub read_over : ReadingValue → List ℕ → ReadingValue
-read_over r bytes = read_on r (repeat (lacks r) bytes)
+read_over r bytes = read_times (lacks r) r bytes
 
 -- the image that the rows make which came whole
 abbrev pub image_of : ReadingValue → ImageValue

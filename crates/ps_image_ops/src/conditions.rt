@@ -1,18 +1,18 @@
 //! What an image operator refuses of what it is told.
-ghost use Rattle.std.specs.Prelude.{◌≡◌, ◌<◌, ◌≤◌, ◌*◌, ◌^◌, ◌⊎◌, IfOk, IfSome, IsTrue, true, false, length, map};
-ghost use Rattle.std.specs.Prelude.{unsigned_abs};
+ghost use Rattle.std.specs.Prelude.{◌≡◌, ◌<◌, ◌≤◌, ◌==◌, ◌*◌, ◌-ℤ◌, ◌⊎◌, ◌↔◌, IfOk, IfSome, IsTrue, true, length};
+ghost use Rattle.std.specs.Prelude.{pos, [], ◌∷◌, unsigned_abs};
+ghost use Rattle.std.specs.List.{repeat};
 ghost use Rattle.geo_matrix.specs.Affine.{det_of};
-ghost use Rattle.gfx_state.specs.CurrentPage.{has_sample_room};
 ghost use Rattle.img_map.specs.Map.{IsSmall};
 ghost use Rattle.img_samples.specs.Gathering.{nothing_of};
-ghost use Rattle.ps_store.specs.Store.{objects_of};
 ghost use Rattle.ps_gfx_ops.specs.Lines.{number_in};
-ghost use Rattle.ps_image_ops.specs.Conditions.{size_of, depth_of, is_whole_decode, sampling_by, sampling_of, is_small};
-ghost use Rattle.ps_image_ops.specs.Conditions.{fits_page, paints_ones, is_turned, decode_numbers, format_of};
+ghost use Rattle.ps_image_ops.specs.Conditions.{size_of, depth_of, is_whole_decode, sampling_by, sampling_of};
+ghost use Rattle.ps_image_ops.specs.Conditions.{fits_page, paints_ones, is_turned, format_of};
 
 use crate::parameters::{Decode, Parameters};
 use geo_matrix::{Matrix, det};
 use gfx_state::Gfx;
+use img_map::is_small;
 use img_samples::Gather;
 use press_fault::{Mem, PsName};
 use press_nums::{Fix, Whole, Wide};
@@ -132,15 +132,6 @@ fn has_inverse(m: &Matrix) -> bool
     ensures { IsTrue result ↔ (0 < unsigned_abs (det_of m.now)) }
 {
     det(m) != 0
-}
-
-/// Whether each element of a matrix is below 2^20.
-#[tactic(auto, using(crate::proofs::Small::as_test))]
-fn is_small(m: &Matrix) -> bool
-    ensures value { result ≡ is_small m.now }
-    ensures small { IsTrue result → IsSmall m.now }
-{
-    img_map::is_small(m)
 }
 
 /// An image or a mask of which nothing was delivered yet.

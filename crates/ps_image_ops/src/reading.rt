@@ -1,12 +1,9 @@
 //! Images that are being read.
-ghost use Rattle.std.specs.Prelude.{◌≡◌, ◌<◌, ◌≤◌, ◌==◌, ◌↔◌, take, Some, None, OnOk, OnErr, IfOk, IsErrOf, unsigned_abs};
-ghost use Rattle.std.specs.Prelude.{length, []};
+ghost use Rattle.std.specs.Prelude.{◌≡◌, ◌-◌, ◌==◌, ◌↔◌, Some, None, OnOk, OnErr, IfOk, IsErrOf, min, length};
 ghost use Rattle.std.specs.Arc.{arc_value};
-ghost use Rattle.geo_matrix.specs.Affine.{det_of};
-ghost use Rattle.img_map.specs.Map.{IsSmall};
-ghost use Rattle.img_samples.specs.Gathering.{fed};
 ghost use Rattle.ps_image_ops.specs.Parameters.{is_mask};
 ghost use Rattle.ps_image_ops.specs.Reading.{lacks, read_on, read_over, image_of, placed};
+ghost use Rattle.ps_image_ops.specs.Code.Kept.{IsReading};
 
 use crate::extent::extent_of;
 use crate::parameters::DataSource;
@@ -83,6 +80,7 @@ impl Reading {
     pub fn read(&mut self, bytes: &[u8]) -> Mem<usize>
         ensures count { IfOk result (λ n. n ≡ min (length bytes.now) (lacks self.old)) }
         ensures ok { OnOk result (self.new ≡ read_on self.old bytes.now) }
+        ensures left { IfOk result (λ n. lacks self.new ≡ lacks self.old - n) }
         ensures err { OnErr result (self.new ≡ self.old) }
     {
         self.gather.feed(bytes)
@@ -92,7 +90,7 @@ impl Reading {
     pub fn read_over(&mut self, bytes: &[u8]) -> Mem<()>
         ensures { OnOk result (self.new ≡ read_over self.old bytes.now) }
     {
-        feed_over(&mut self.gather, bytes)
+        read_over(self, bytes)
     }
 
     /// Adds what was read to the page, refused exactly where the page has no room for it; nothing where
@@ -109,8 +107,15 @@ impl Reading {
             return Err(Grow::LimitCheck);
         }
         let mask = is_mask(self.op);
-        let image = Arc::new(alloc, self.image())?;
+        let image = self.shared_image(alloc)?;
         gfx.mark_image(image, mask)
+    }
+
+    /// The image, which marks share.
+    fn shared_image(self, alloc: Global) -> Mem<Arc<Image>>
+        ensures { IfOk result (λ image. arc_value image ≡ image_of self) }
+    {
+        Ok(Arc::new(alloc, self.image())?)
     }
 
     /// The image that the rows make which came whole.
@@ -143,16 +148,15 @@ pub(crate) fn is_mask(op: ImageOp) -> bool
     }
 }
 
-/// Feeds the bytes of a string over and over, until no more are taken.
-fn feed_over(gather: &mut Gather, bytes: &[u8]) -> Mem<()>
-    ensures { OnOk result (gather.new ≡ fed gather.old (take (missing gather.old)
-        (repeat (missing gather.old) bytes.now))) }
+/// Reads the bytes of a string over and over, until no more are taken.
+fn read_over(reading: &mut Reading, bytes: &[u8]) -> Mem<()>
+    ensures { OnOk result (reading.new ≡ read_over reading.old bytes.now) }
 {
     if bytes.is_empty() {
         return Ok(());
     }
-    while !gather.done() {
-        gather.feed(bytes)?;
+    while !reading.is_done() {
+        reading.read(bytes)?;
     }
     Ok(())
 }

@@ -1,0 +1,45 @@
+-- A string that is read over and over.
+use Rattle.std.proofs.Common.{◌≡◌, ◌∙◌, ◌≤◌, ◌<◌, ℕ, zero, suc, List, [], take, ap, sym, refl, arith}
+use Rattle.img_samples.specs.Gathering.{fed}
+use Rattle.ps_image_ops.specs.Reading.{ReadingValue, lacks, read_on, read_times}
+
+-- an image that takes no more reads nothing
+nothing_more : (r : ReadingValue) (bytes : List ℕ) → lacks r ≡ 0 → read_on r bytes ≡ r
+nothing_more r bytes none = ap (λ k. let q : ReadingValue = record r { gather = fed r.gather (take k bytes) } in q) none
+
+-- however often
+pub however_often : (n : ℕ) (r : ReadingValue) (bytes : List ℕ) → lacks r ≡ 0 → read_times n r bytes ≡ r
+unfolding read_times
+however_often zero r bytes none = refl
+however_often (suc n) r bytes none =
+    ap (λ q. read_times n q bytes) (nothing_more r bytes none) ∙ however_often n r bytes none
+
+-- an image that takes no more is what was to be read
+pub all_read : (r whole : ReadingValue) (bytes : List ℕ) →
+    ((n : ℕ) × (lacks r ≤ n) × (read_times n r bytes ≡ whole)) → lacks r ≡ 0 → whole ≡ r
+all_read r whole bytes (n, few, is) none = sym is ∙ however_often n r bytes none
+
+take_of_none : (k : ℕ) → take k [] ≡ []
+take_of_none zero = refl
+take_of_none (suc k) = refl
+
+-- an empty string gives nothing
+pub of_none : (n : ℕ) (r : ReadingValue) → read_times n r [] ≡ r
+unfolding read_times
+of_none zero r = refl
+of_none (suc n) r =
+    ap (λ bytes. let q : ReadingValue = record r { gather = fed r.gather bytes } in read_times n q []) (take_of_none (lacks r))
+    ∙ of_none n r
+
+-- a string without bytes
+pub of_empty : (n : ℕ) (r : ReadingValue) (bytes : List ℕ) → bytes ≡ [] → read_times n r bytes ≡ r
+of_empty n r bytes none = ap (λ b. read_times n r b) none ∙ of_none n r
+
+-- one time more
+pub once_more : (r new whole : ReadingValue) (bytes : List ℕ) →
+    ((n : ℕ) × (lacks r ≤ n) × (read_times n r bytes ≡ whole)) → new ≡ read_on r bytes → lacks new < lacks r →
+    ((n : ℕ) × (lacks new ≤ n) × (read_times n new bytes ≡ whole))
+unfolding read_times
+once_more r new whole bytes (zero, few, is) then less = absurd (omega (arith, few, less))
+once_more r new whole bytes (suc n, few, is) then less =
+    (n, omega (arith, few, less), ap (λ q. read_times n q bytes) then ∙ is)
