@@ -1,10 +1,11 @@
 //! The program's text, read one token at a time.
-ghost use Rattle.std.specs.Prelude.{◌≡◌, ◌≤◌, IfOk, length, codes, Some, None};
+ghost use Rattle.std.specs.Prelude.{◌≡◌, ◌≤◌, IfOk, [], length, codes, Some, None};
+ghost use Rattle.press_fault.specs.declared.names.PsName.TheVariants.{LimitCheck};
 ghost use Rattle.ps_store.specs.Store.{with_text_of, with_array_of};
 ghost use Rattle.ps_store.specs.declared.key.Key.TheVariants.{Named};
 ghost use Rattle.ps_store.specs.Dicts.{find_key};
 ghost use Rattle.ps_machine.specs.State.{BodyValue as Snapshot};
-ghost use Rattle.ps_machine.specs.Errors.{counted};
+ghost use Rattle.ps_machine.specs.Errors.{counted, failed};
 ghost use Rattle.ps_machine.specs.Steps.{execute};
 ghost use Rattle.ps_machine.specs.Reading.{read, read_token, met, met_string, met_procedure, met_value, closed, unmade};
 ghost use Rattle.ps_machine.specs.Meaning.{step_of};
@@ -123,16 +124,32 @@ impl Body {
     }
 
     /// A string or a procedure that a limit refuses.
+    #[tactic(auto, using(crate::proofs::Refusing::inside))]
     fn refuse(&mut self, end: &mut End) -> Turn
         ensures { unmade self.old.unclosed self.old ≡ step_of result self.new end.new }
     {
-        if !self.unclosed.is_empty() {
-            return self.fail(end, PsName::LimitCheck, named(b"scan"));
+        if self.unclosed.is_empty() {
+            self.refuse_outside(end)
+        } else {
+            self.pass_limit(end)
         }
+    }
+
+    /// The same outside procedures, where it would be pushed.
+    fn refuse_outside(&mut self, end: &mut End) -> Turn
+        ensures { unmade [] self.old ≡ step_of result self.new end.new }
+    {
         if self.stack.len() >= 500 {
             self.fail(end, PsName::StackOverflow, named(b"push"))
         } else {
-            self.fail(end, PsName::LimitCheck, named(b"scan"))
+            self.pass_limit(end)
         }
+    }
+
+    /// The scanner's limit is passed.
+    fn pass_limit(&mut self, end: &mut End) -> Turn
+        ensures { failed LimitCheck (codes "scan") self.old ≡ step_of result self.new end.new }
+    {
+        self.fail(end, PsName::LimitCheck, named(b"scan"))
     }
 }

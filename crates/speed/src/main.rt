@@ -8,14 +8,19 @@ mod cache;
 mod colour;
 mod fill;
 mod flow;
+mod image;
 mod path;
+mod profile;
 mod profiles;
 mod scan;
 mod store;
 mod stroke;
+mod wait;
 
 use std::io::ErrorKind;
 use std::process::ExitCode;
+use std::sync::Wait;
+use std::thread::Threads;
 use std::{env, io};
 
 /// How much a benchmark does.
@@ -44,24 +49,33 @@ enum Bench {
     Colour,
     Fill,
     Flow,
+    Image,
     Path,
+    Profile,
     Scan,
     Store,
     Stroke,
+    Wait,
+    Waiting,
 }
 
-const ALL: [Bench; 8] = [
+const ALL: [Bench; 12] = [
     Bench::Cache,
     Bench::Colour,
     Bench::Fill,
     Bench::Flow,
+    Bench::Image,
     Bench::Path,
+    Bench::Profile,
     Bench::Scan,
     Bench::Store,
     Bench::Stroke,
+    Bench::Wait,
+    Bench::Waiting,
 ];
 
-const USAGE: &str = "speed: usage: speed all|cache|colour|fill|flow|path|scan|store|stroke";
+const USAGE: &str = "speed: usage: speed \
+    all|cache|colour|fill|flow|image|path|profile|scan|store|stroke|wait|waiting";
 
 impl Bench {
     fn of(word: &str) -> Option<Bench> {
@@ -70,24 +84,37 @@ impl Bench {
             "colour" => Some(Bench::Colour),
             "fill" => Some(Bench::Fill),
             "flow" => Some(Bench::Flow),
+            "image" => Some(Bench::Image),
             "path" => Some(Bench::Path),
+            "profile" => Some(Bench::Profile),
             "scan" => Some(Bench::Scan),
             "store" => Some(Bench::Store),
             "stroke" => Some(Bench::Stroke),
+            "wait" => Some(Bench::Wait),
+            "waiting" => Some(Bench::Waiting),
             _ => None,
         }
     }
 
-    fn run(self, rt: &HostRuntime, size: Size) -> io::Result<()> {
+    fn run<R: Threads + Wait + Sync>(
+        self,
+        rt: &HostRuntime,
+        threads: &R,
+        size: Size,
+    ) -> io::Result<()> {
         match self {
             Bench::Cache => cache::run(rt, size),
             Bench::Colour => colour::run(rt),
             Bench::Fill => fill::run(rt),
             Bench::Flow => flow::run(rt, size),
+            Bench::Image => image::run(rt),
             Bench::Path => path::run(rt, size),
+            Bench::Profile => profile::run(rt),
             Bench::Scan => scan::run(rt, size),
             Bench::Store => store::run(rt, size),
             Bench::Stroke => stroke::run(rt),
+            Bench::Wait => wait::run(rt, threads, size),
+            Bench::Waiting => wait::run_waiting(rt, threads, size),
         }
     }
 }
@@ -98,31 +125,31 @@ pub(crate) fn no_memory() -> io::Error {
 }
 
 /// Runs what the word names, and false where it names nothing.
-fn is_run(rt: &HostRuntime, word: &str) -> io::Result<bool> {
+fn is_run<R: Threads + Wait + Sync>(rt: &HostRuntime, threads: &R, word: &str) -> io::Result<bool> {
     if word == "all" {
         for bench in ALL {
-            bench.run(rt, Size::Short)?;
+            bench.run(rt, threads, Size::Short)?;
         }
         return Ok(true);
     }
     match Bench::of(word) {
-        Some(bench) => bench.run(rt, Size::Whole)?,
+        Some(bench) => bench.run(rt, threads, Size::Whole)?,
         None => return Ok(false),
     }
     Ok(true)
 }
 
 /// Runs what the only word of the command line names, and false where there isn't one.
-fn is_run_by_words(rt: &HostRuntime) -> io::Result<bool> {
+fn is_run_by_words<R: Threads + Wait + Sync>(rt: &HostRuntime, threads: &R) -> io::Result<bool> {
     let mut words = env::args(rt)?.skip(1);
     match (words.next(), words.next()) {
-        (Some(word), None) => is_run(rt, word.as_str()),
+        (Some(word), None) => is_run(rt, threads, word.as_str()),
         _ => Ok(false),
     }
 }
 
 fn main(rt: HostRuntime) -> ExitCode {
-    match is_run_by_words(&rt) {
+    match is_run_by_words(&rt, &rt) {
         Ok(true) => ExitCode::SUCCESS,
         Ok(false) => {
             let _ = eprintln!(rt; "{USAGE}");
