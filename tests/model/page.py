@@ -126,6 +126,8 @@ class Page:
         self.state = State(self.default_matrix())
 
     def gsave(self):
+        if len(self.saved) >= 32:
+            raise Refusal('limitcheck')
         self.saved.append(self.state)
 
     def grestore(self):

@@ -28,7 +28,8 @@ pub of_none : (n : ℕ) (r : ReadingValue) → read_times n r [] ≡ r
 unfolding read_times
 of_none zero r = refl
 of_none (suc n) r =
-    ap (λ bytes. let q : ReadingValue = record r { gather = fed r.gather bytes } in read_times n q []) (take_of_none (lacks r))
+    ap (λ bytes. let q : ReadingValue = record r { gather = fed r.gather bytes } in read_times n q [])
+    (take_of_none (lacks r))
     ∙ of_none n r
 
 -- a string without bytes

@@ -1,9 +1,8 @@
 -- What an image operator refuses of what it is told (PostScript Language Reference, third edition, 4.10.5 Image
 -- Dictionaries). Own rules: rangecheck before undefinedresult before limitcheck; each element of both matrices is below
 -- 2^20; the samples of the whole height have to have room on the page, whatever comes of them.
-use Rattle.std.specs.Prelude.{ℕ, ℤ, pos, ◌*◌, ◌-ℤ◌, ◌==◌, ◌&&◌, ◌||◌, Bool, true, false, List, [], ◌∷◌, length, map, not}
-use Rattle.std.specs.Prelude.{int_lt, unsigned_abs, Option, Some, None, Result, Ok, Err}
-use Rattle.std.specs.Prelude.{if◌then◌else◌}
+use Rattle.std.specs.Prelude.{ℕ, ℤ, pos, ◌*◌, ◌-ℤ◌, ◌==◌, ◌&&◌, ◌||◌, Bool, true, false, List, [], ◌∷◌, length, map}
+use Rattle.std.specs.Prelude.{not, int_lt, unsigned_abs, Option, Some, None, Result, Ok, Err, if◌then◌else◌}
 use Rattle.std.specs.List.{repeat}
 use Rattle.press_fault.specs.declared.names.PsName.{PsName}
 use Rattle.press_fault.specs.declared.names.PsName.TheVariants.{RangeCheck, UndefinedResult, LimitCheck}

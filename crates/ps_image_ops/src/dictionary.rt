@@ -2,8 +2,8 @@
 ghost use Rattle.std.specs.Prelude.{◌≡◌, ◌≤◌, ◌⊎◌, IfOk, length};
 ghost use Rattle.std.specs.Option.{option_copied, option_and_then};
 ghost use Rattle.ps_store.specs.declared.key.Key.TheVariants.{Named};
-ghost use Rattle.ps_image_ops.specs.Parameters.{value_in, has_key, integer_in, numbers_of, source_of, bits_by, decode_by};
-ghost use Rattle.ps_image_ops.specs.Parameters.{has_keys, of_type, described, dictionary_image};
+ghost use Rattle.ps_image_ops.specs.Parameters.{value_in, has_key, integer_in, numbers_of, source_of, bits_by};
+ghost use Rattle.ps_image_ops.specs.Parameters.{decode_by, has_keys, of_type, described, dictionary_image};
 
 use crate::parameters::{DataSource, Decode, Parameters, integer, numbers, source};
 use press_fault::{Name, PsName};

@@ -1,6 +1,6 @@
--- How images are read (PostScript Language Reference, third edition, 4.10.5 Image Dictionaries: DataSource; 8.2 Operator
--- Details: image). Own rules: a procedure is called with the operands removed, until enough bytes came or it leaves an
--- empty string; each call counts; what is refused once bytes have come leaves what was done until then.
+-- How images are read (PostScript Language Reference, third edition, 4.10.5 Image Dictionaries: DataSource; 8.2
+-- Operator Details: image). Own rules: a procedure is called with the operands removed, until enough bytes came or it
+-- leaves an empty string; each call counts; what is refused once bytes have come leaves what was done until then.
 use Rattle.std.specs.Prelude.{ℕ, ◌==◌, ◌||◌, List, [], ◌∷◌, length, drop, Option, Some, None, nat_lt, if◌then◌else◌}
 use Rattle.press_fault.specs.declared.names.PsName.TheVariants.{TypeCheck, LimitCheck, ExecStackOverflow}
 use Rattle.ps_store.specs.declared.obj.Obj.{Obj}

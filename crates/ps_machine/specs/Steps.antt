@@ -83,8 +83,8 @@ operate_flow op s = after_flow (flow_row op s.operands s.levels s.store s.dicts)
 abbrev pub shown : BodyValue → BodyValue
 shown s = record s { graphics = with_initial (erased s.graphics) }
 
--- an operator does its row; `quit` ends the program, and `showpage` shows the page; one on colour spaces or fonts, which
--- isn't built and which no program finds, is undefined by its name
+-- an operator does its row; `quit` ends the program, and `showpage` shows the page; one on colour spaces or fonts,
+-- which isn't built and which no program finds, is undefined by its name
 unfoldable pub operate : Oper → BodyValue → StepOutcome
 operate (Stack op) s = after_stack (stack_row op s.operands s.store) (name_of (Stack op)) s
 operate (Data op) s = after_data (data_row op (work_of s)) (name_of (Data op)) s

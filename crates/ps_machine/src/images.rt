@@ -3,8 +3,8 @@ ghost use Rattle.std.specs.Prelude.{◌≡◌, ◌≤◌, IfOk, drop, length};
 ghost use Rattle.ps_store.specs.declared.oper.Oper.TheVariants.{Image as OnImage};
 ghost use Rattle.ps_store.specs.Operators.{name_of};
 ghost use Rattle.ps_image_ops.specs.Rows.{image_row};
-ghost use Rattle.ps_machine.specs.Images.{after_image, begins, from_source, finished, called, returned, after_procedure};
-ghost use Rattle.ps_machine.specs.Images.{reads_on};
+ghost use Rattle.ps_machine.specs.Images.{after_image, begins, from_source, finished, called, returned, reads_on};
+ghost use Rattle.ps_machine.specs.Images.{after_procedure};
 ghost use Rattle.ps_store.specs.Store.{bytes_of};
 ghost use Rattle.ps_machine.specs.Meaning.{step_of};
 
@@ -21,8 +21,8 @@ impl Body {
     #[inline(never)]
     pub(crate) fn operate_image(&mut self, end: &mut End, op: ImageOp) -> Mem<Turn>
         ensures { IfOk result (λ turn.
-            after_image (image_row op self.old.operands self.old.store self.old.graphics) (name_of (OnImage op)) self.old
-            ≡ step_of turn self.new end.new) }
+            after_image (image_row op self.old.operands self.old.store self.old.graphics) (name_of (OnImage op))
+            self.old ≡ step_of turn self.new end.new) }
     {
         match begin_image(self.alloc, op, &self.stack, &self.store, &self.gfx) {
             Ok(begun) => self.begin(end, begun),
