@@ -2,8 +2,8 @@
 ghost use Rattle.std.specs.Prelude.{◌≡◌, ◌≤◌, ◌⊎◌, IfOk, IfSome, length};
 ghost use Rattle.gfx_state.specs.Colour.{channels_of};
 ghost use Rattle.ps_image_ops.specs.Parameters.{integer_at, boolean_at, numbers_at, source_at, gray_image};
-ghost use Rattle.ps_image_ops.specs.Parameters.{operand_mask, channels_told, components_image, colour_image, dictionary_on_top};
-ghost use Rattle.ps_image_ops.specs.Parameters.{image_told, imagemask_told, colorimage_told, told};
+ghost use Rattle.ps_image_ops.specs.Parameters.{operand_mask, channels_told, components_image, colour_image};
+ghost use Rattle.ps_image_ops.specs.Parameters.{dictionary_on_top, image_told, imagemask_told, colorimage_told, told};
 
 use crate::dictionary::dictionary_image;
 use crate::parameters::{

@@ -127,7 +127,7 @@ impl Reading {
         Image {
             width,
             rows,
-            channels: self.gather.format().channels,
+            channels: self.gather.format().channel_count(),
             source: None,
             map: image_map(&self.current, &self.matrix),
             low: extent.low.narrow(),
