@@ -4,4 +4,4 @@ use Rattle.img_samples.proofs.gather.Gather.codes.Goals as goal
 pub returns-clause-few : goal.returns-clause-few
 returns-clause-few c =
     few_codes c.self.inside.format.width c.self.inside.format.height c.self.inside.format.channels
-    c.self.inside.rows.count c.len.result search search search
+    c.self.inside.rows.count c.len.result (search) (search) (search)
