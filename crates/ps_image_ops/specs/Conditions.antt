@@ -1,9 +1,10 @@
 -- What an image operator refuses of what it is told (PostScript Language Reference, third edition, 4.10.5 Image
 -- Dictionaries). Own rules: rangecheck before undefinedresult before limitcheck; each element of both matrices is below
 -- 2^20; the samples of the whole height have to have room on the page, whatever comes of them.
-use Rattle.std.specs.Prelude.{ℕ, ℤ, pos, ◌*◌, ◌-ℤ◌, ◌==◌, ◌&&◌, ◌||◌, Bool, true, false, List, [], ◌∷◌, length, map}
-use Rattle.std.specs.Prelude.{not, int_lt, unsigned_abs, Option, Some, None, Result, Ok, Err, if◌then◌else◌}
+use Rattle.std.specs.Prelude.{ℕ, ℤ, pos, ◌*◌, ◌-ℤ◌, ◌==◌, ◌&&◌, Bool, true, false, List, [], ◌∷◌, length, map}
+use Rattle.std.specs.Prelude.{unsigned_abs, Option, Some, None, Result, Ok, Err, if◌then◌else◌}
 use Rattle.std.specs.List.{repeat}
+use Rattle.std.specs.Option.{option_and_then}
 use Rattle.press_fault.specs.declared.names.PsName.{PsName}
 use Rattle.press_fault.specs.declared.names.PsName.TheVariants.{RangeCheck, UndefinedResult, LimitCheck}
 use Rattle.geo_matrix.specs.Affine.{MatrixValue, det_of}
@@ -21,19 +22,18 @@ use Rattle.ps_image_ops.specs.declared.conditions.Sampling.{Sampling}
 use Rattle.ps_image_ops.specs.declared.parameters.Decode.{Decode}
 use Rattle.ps_image_ops.specs.declared.parameters.Decode.TheVariants.{Usual, Polarity, Numbers}
 use Rattle.ps_image_ops.specs.declared.parameters.Parameters.{Parameters}
-use Rattle.ps_image_ops.specs.Parameters.{is_mask}
+use Rattle.ps_image_ops.specs.Parameters.{size_of}
 
--- an integer as a size, where it isn't below 0
-abbrev pub size_of : ℤ → Option ℕ
-size_of n = if int_lt n (pos 0) then None else Some (unsigned_abs n)
+-- the bits of a sample, where there are such: 1, and but for a mask 2, 4 and 8
+abbrev pub bits_of : Bool → ℕ → Option ℕ
+bits_of mask n =
+    if n == 1 then Some 1
+    else (if mask then None
+    else (if n == 2 then Some 2 else (if n == 4 then Some 4 else (if n == 8 then Some 8 else None))))
 
--- the bits of a sample that there are: 1, 2, 4 and 8, and 1 of a mask
-abbrev pub is_depth : Bool → ℕ → Bool
-is_depth mask bits = (bits == 1) || (not mask && ((bits == 2) || (bits == 4) || (bits == 8)))
-
--- an integer as the bits of a sample, where there are such
+-- an integer as the bits of a sample
 abbrev pub depth_of : Bool → ℤ → Option ℕ
-depth_of mask n = if not (int_lt n (pos 0)) && is_depth mask (unsigned_abs n) then Some (unsigned_abs n) else None
+depth_of mask n = option_and_then (bits_of mask) (size_of n)
 
 -- Decode has two numbers for each channel, where it has any
 abbrev pub is_whole_decode : StoreValue → ℕ → Decode → Bool

@@ -2,9 +2,9 @@
 -- 4.10.5 Image Dictionaries; 8.2 Operator Details: image, colorimage, imagemask). Own rules: enough operands, then the
 -- types of all of them; of a dictionary all keys that have to be there, then the types of all values.
 use Rattle.std.specs.Prelude.{ℕ, ℤ, pos, ◌&&◌, ◌||◌, Bool, true, false, List, length, nat_lt, slice_get, codes}
-use Rattle.std.specs.Prelude.{Option, Some, None, Result, Ok, Err, if◌then◌else◌, int_le, unsigned_abs, ◌==◌}
+use Rattle.std.specs.Prelude.{Option, Some, None, Result, Ok, Err, if◌then◌else◌, int_lt, unsigned_abs, ◌==◌}
 use Rattle.std.specs.List.{list_all}
-use Rattle.std.specs.Option.{option_and_then, option_map}
+use Rattle.std.specs.Option.{option_and_then, option_map, option_map_or}
 use Rattle.press_fault.specs.declared.names.PsName.{PsName}
 use Rattle.press_fault.specs.declared.names.PsName.TheVariants.{StackUnderflow, TypeCheck, RangeCheck, Undefined}
 use Rattle.ps_store.specs.declared.key.Key.TheVariants.{Named}
@@ -27,6 +27,10 @@ use Rattle.ps_image_ops.specs.declared.parameters.Parameters.{Parameters}
 abbrev pub is_mask : ImageOp → Bool
 is_mask Imagemask = true
 is_mask op = false
+
+-- an integer as a size, where it isn't below 0
+abbrev pub size_of : ℤ → Option ℕ
+size_of n = if int_lt n (pos 0) then None else Some (unsigned_abs n)
 
 -- the integer that an object is, if it is one
 abbrev pub integer_of : Obj → Option ℤ
@@ -97,12 +101,13 @@ operand_mask (Some width) (Some height) (Some ones) (Some matrix) (Some source) 
 })
 operand_mask width height ones matrix source = Err TypeCheck
 
--- the channels of a device space that a number of components says, rangecheck where no space has so many
+-- a number of components, where a device space has so many
+abbrev pub components_of : ℕ → Option ℕ
+components_of n = if n == 1 then Some 1 else (if n == 3 then Some 3 else (if n == 4 then Some 4 else None))
+
+-- the channels of a device space that a number of components says, none where no space has so many
 abbrev pub channels_told : ℤ → Option ℕ
-channels_told n =
-    if int_le (pos 1) n && (unsigned_abs n == 1 || unsigned_abs n == 3 || unsigned_abs n == 4)
-    then Some (unsigned_abs n)
-    else None
+channels_told n = option_and_then components_of (size_of n)
 
 -- an image of so many components, by the first five operands, whose types are right. Own rule: a source for each
 -- component is rangecheck, as a number of components is that no device space has
@@ -156,10 +161,13 @@ has_keys mask s dict =
     && (mask || has_key s dict (codes "BitsPerComponent")) && has_key s dict (codes "ImageMatrix")
     && has_key s dict (codes "DataSource")
 
--- an image or a mask by the values of a dictionary, whose types are right; the one ImageType is 1, else rangecheck
+-- whether an ImageType is 1, the one that there is
+abbrev pub is_type_one : ℤ → Bool
+is_type_one n = option_map_or (λ size. size == 1) (size_of n) false
+
+-- an image or a mask by the values of a dictionary, whose types are right; rangecheck where ImageType isn't 1
 abbrev pub of_type : ℤ → Parameters → Result Parameters PsName
-of_type image_type parameters =
-    if int_le (pos 1) image_type && unsigned_abs image_type == 1 then Ok parameters else Err RangeCheck
+of_type image_type parameters = if is_type_one image_type then Ok parameters else Err RangeCheck
 
 -- an image or a mask of so many channels by the values of a dictionary; typecheck where one is of another type
 abbrev pub described : ℕ → Option ℤ → Option ℤ → Option ℤ → Option ℤ → Option PartValue → Option Decode →

@@ -6,10 +6,10 @@ ghost use Rattle.geo_matrix.specs.Affine.{det_of};
 ghost use Rattle.img_map.specs.Map.{IsSmall};
 ghost use Rattle.img_samples.specs.Gathering.{nothing_of};
 ghost use Rattle.ps_gfx_ops.specs.Lines.{number_in};
-ghost use Rattle.ps_image_ops.specs.Conditions.{size_of, depth_of, is_whole_decode, sampling_by, sampling_of};
+ghost use Rattle.ps_image_ops.specs.Conditions.{bits_of, depth_of, is_whole_decode, sampling_by, sampling_of};
 ghost use Rattle.ps_image_ops.specs.Conditions.{fits_page, paints_ones, is_turned, format_of};
 
-use crate::parameters::{Decode, Parameters};
+use crate::parameters::{Decode, Parameters, size};
 use geo_matrix::{Matrix, det};
 use gfx_state::Gfx;
 use img_map::is_small;
@@ -71,25 +71,33 @@ fn sampling_by(
     })
 }
 
-/// An integer as a size, where it isn't below 0.
-fn size(n: Whole) -> Option<u32>
-    ensures { result ≡ size_of n }
-{
-    let n = n.get();
-    if n < 0 { None } else { Some(n.unsigned_abs()) }
-}
-
 /// An integer as the bits of a sample, where there are such; a mask has 1.
 fn depth(mask: bool, n: Whole) -> Option<u8>
     ensures value { result ≡ depth_of mask n }
     ensures bits { IfSome result (λ bits. (bits ≡ 1) ⊎ (bits ≡ 2) ⊎ (bits ≡ 4) ⊎ (bits ≡ 8)) }
 {
-    match n.get() {
-        1 => Some(1),
-        2 => if mask { None } else { Some(2) },
-        4 => if mask { None } else { Some(4) },
-        8 => if mask { None } else { Some(8) },
-        _ => None,
+    match size(n) {
+        Some(n) => bits_of(mask, n),
+        None => None,
+    }
+}
+
+fn bits_of(mask: bool, n: u32) -> Option<u8>
+    ensures value { result ≡ bits_of mask n }
+    ensures bits { IfSome result (λ bits. (bits ≡ 1) ⊎ (bits ≡ 2) ⊎ (bits ≡ 4) ⊎ (bits ≡ 8)) }
+{
+    if n == 1 {
+        Some(1)
+    } else if mask {
+        None
+    } else if n == 2 {
+        Some(2)
+    } else if n == 4 {
+        Some(4)
+    } else if n == 8 {
+        Some(8)
+    } else {
+        None
     }
 }
 

@@ -3,9 +3,9 @@ ghost use Rattle.std.specs.Prelude.{◌≡◌, ◌≤◌, ◌⊎◌, IfOk, lengt
 ghost use Rattle.std.specs.Option.{option_copied, option_and_then};
 ghost use Rattle.ps_store.specs.declared.key.Key.TheVariants.{Named};
 ghost use Rattle.ps_image_ops.specs.Parameters.{value_in, has_key, integer_in, numbers_of, source_of, bits_by};
-ghost use Rattle.ps_image_ops.specs.Parameters.{decode_by, has_keys, of_type, described, dictionary_image};
+ghost use Rattle.ps_image_ops.specs.Parameters.{decode_by, has_keys, is_type_one, of_type, described, dictionary_image};
 
-use crate::parameters::{DataSource, Decode, Parameters, integer, numbers, source};
+use crate::parameters::{DataSource, Decode, Parameters, integer, numbers, size, source};
 use press_fault::{Name, PsName};
 use press_nums::Whole;
 use ps_store::{Obj, Part, Sought, Store};
@@ -136,6 +136,16 @@ pub(crate) fn dictionary_image(
     )
 }
 
+/// Whether an ImageType is 1, the one that there is.
+fn is_type_one(n: Whole) -> bool
+    ensures { result ≡ is_type_one n }
+{
+    match size(n) {
+        Some(n) => n == 1,
+        None => false,
+    }
+}
+
 /// An image or a mask by the values of a dictionary.
 fn described(
     channels: u8,
@@ -162,7 +172,7 @@ fn described(
     else {
         return Err(PsName::TypeCheck);
     };
-    if image_type.get() != 1 {
+    if !is_type_one(image_type) {
         return Err(PsName::RangeCheck);
     }
     Ok(Parameters {

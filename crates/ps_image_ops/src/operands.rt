@@ -2,12 +2,13 @@
 ghost use Rattle.std.specs.Prelude.{◌≡◌, ◌≤◌, ◌⊎◌, IfOk, IfSome, length};
 ghost use Rattle.gfx_state.specs.Colour.{channels_of};
 ghost use Rattle.ps_image_ops.specs.Parameters.{integer_at, boolean_at, numbers_at, source_at, gray_image};
-ghost use Rattle.ps_image_ops.specs.Parameters.{operand_mask, channels_told, components_image, colour_image};
+ghost use Rattle.ps_image_ops.specs.Parameters.{operand_mask, components_of, channels_told, components_image};
+ghost use Rattle.ps_image_ops.specs.Parameters.{colour_image};
 ghost use Rattle.ps_image_ops.specs.Parameters.{dictionary_on_top, image_told, imagemask_told, colorimage_told, told};
 
 use crate::dictionary::dictionary_image;
 use crate::parameters::{
-    DataSource, Decode, Parameters, boolean, integer, numbers, source,
+    DataSource, Decode, Parameters, boolean, integer, numbers, size, source,
 };
 use gfx_state::{Gfx, Space};
 use press_fault::PsName;
@@ -211,11 +212,25 @@ fn channels_told(n: Whole) -> Option<u8>
     ensures value { result ≡ channels_told n }
     ensures channels { IfSome result (λ channels. (channels ≡ 1) ⊎ (channels ≡ 3) ⊎ (channels ≡ 4)) }
 {
-    match n.get() {
-        1 => Some(1),
-        3 => Some(3),
-        4 => Some(4),
-        _ => None,
+    match size(n) {
+        Some(n) => components_of(n),
+        None => None,
+    }
+}
+
+/// A number of components, where a device space has so many.
+fn components_of(n: u32) -> Option<u8>
+    ensures value { result ≡ components_of n }
+    ensures channels { IfSome result (λ channels. (channels ≡ 1) ⊎ (channels ≡ 3) ⊎ (channels ≡ 4)) }
+{
+    if n == 1 {
+        Some(1)
+    } else if n == 3 {
+        Some(3)
+    } else if n == 4 {
+        Some(4)
+    } else {
+        None
     }
 }
 

@@ -1,6 +1,6 @@
 //! What an image operator is told, and what objects say of it.
 ghost use Rattle.std.specs.Prelude.{◌≡◌};
-ghost use Rattle.ps_image_ops.specs.Parameters.{integer_of, boolean_of, numbers_of, source_of};
+ghost use Rattle.ps_image_ops.specs.Parameters.{size_of, integer_of, boolean_of, numbers_of, source_of};
 
 use press_nums::Whole;
 use ps_gfx_ops::are_numbers;
@@ -40,6 +40,14 @@ pub(crate) struct Parameters {
     pub matrix: Part,
     pub decode: Decode,
     pub source: DataSource,
+}
+
+/// An integer as a size, where it isn't below 0.
+pub(crate) fn size(n: Whole) -> Option<u32>
+    ensures { result ≡ size_of n }
+{
+    let n = n.get();
+    if n < 0 { None } else { Some(n.unsigned_abs()) }
 }
 
 /// The integer that an object is.

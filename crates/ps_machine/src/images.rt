@@ -1,5 +1,6 @@
 //! Images that are read.
-ghost use Rattle.std.specs.Prelude.{◌≡◌, ◌≤◌, IfOk, drop, length};
+ghost use Rattle.std.specs.Prelude.{◌≡◌, ◌≤◌, IfOk, OnErr, true, drop, length};
+ghost use Rattle.ps_machine.specs.Memory.{takes_memory};
 ghost use Rattle.ps_store.specs.declared.oper.Oper.TheVariants.{Image as OnImage};
 ghost use Rattle.ps_store.specs.Operators.{name_of};
 ghost use Rattle.ps_image_ops.specs.Rows.{image_row};
@@ -19,8 +20,10 @@ use ps_store::{ImageOp, Obj, OpFault, Oper, Part};
 impl Body {
     /// An image operator.
     #[inline(never)]
+    #[tactic(auto, unfolding(crate::specs::Memory::takes_memory))]
     pub(crate) fn operate_image(&mut self, end: &mut End, op: ImageOp) -> Mem<Turn>
-        ensures { IfOk result (λ turn.
+        ensures memory { OnErr result (takes_memory (OnImage op) ≡ true) }
+        ensures row { IfOk result (λ turn.
             after_image (image_row op self.old.operands self.old.store self.old.graphics) (name_of (OnImage op))
             self.old ≡ step_of turn self.new end.new) }
     {
