@@ -1,6 +1,10 @@
 -- A string that is read over and over.
-use Rattle.std.proofs.Common.{◌≡◌, ◌∙◌, ◌≤◌, ◌<◌, ℕ, zero, suc, List, [], take, ap, sym, refl, arith}
-use Rattle.img_samples.specs.Gathering.{fed}
+use Rattle.std.proofs.Common.{◌≡◌, ◌∙◌, ◌≤◌, ◌<◌, ℕ, zero, suc, List, [], length, take, ap, sym, refl, inl, inr, arith}
+use Rattle.std.specs.Prelude.{min}
+use Rattle.std.proofs.lemmas.Bool.{cases_lt}
+use Rattle.std.proofs.lemmas.List.{take_all}
+use Rattle.std.proofs.Math.Nat.{min-eq_left, min-eq_right}
+use Rattle.img_samples.specs.Gathering.{GatherValue, fed}
 use Rattle.ps_image_ops.specs.Reading.{ReadingValue, lacks, read_on, read_times}
 
 -- an image that takes no more reads nothing
@@ -44,3 +48,18 @@ unfolding read_times
 once_more r new whole bytes (zero, few, is) then less = absurd (omega (arith, few, less))
 once_more r new whole bytes (suc n, few, is) then less =
     (n, omega (arith, few, less), ap (λ q. read_times n q bytes) then ∙ is)
+
+-- of bytes as many as there are, and at most so many
+as_many : (bytes : List ℕ) (m : ℕ) → take (min (length bytes) m) bytes ≡ take m bytes
+as_many bytes m = elim (cases_lt m (length bytes)) [
+  | inl fewer ↦ ap (λ k. take k bytes) (min-eq_right (omega (arith, fewer)))
+  | inr all ↦
+      ap (λ k. take k bytes) (min-eq_left all)
+      ∙ (take_all (length bytes) bytes (omega arith) ∙ sym (take_all m bytes all))
+]
+
+-- bytes of which so many were taken as an image takes are those that it reads
+pub taken : (g new : GatherValue) (bytes : List ℕ) (n m : ℕ) → n ≡ min (length bytes) m →
+    new ≡ fed g (take n bytes) → new ≡ fed g (take m bytes)
+taken g new bytes n m count is =
+    is ∙ (ap (λ k. fed g (take k bytes)) count ∙ ap (λ some. fed g some) (as_many bytes m))

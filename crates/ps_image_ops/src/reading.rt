@@ -77,6 +77,7 @@ impl Reading {
     }
 
     /// Reads bytes, as many as it takes, and says how many. Out of memory leaves it as before.
+    #[tactic(auto, using(crate::proofs::Over::taken))]
     pub fn read(&mut self, bytes: &[u8]) -> Mem<usize>
         ensures count { IfOk result (λ n. n ≡ min (length bytes.now) (lacks self.old)) }
         ensures ok { OnOk result (self.new ≡ read_on self.old bytes.now) }
@@ -149,6 +150,7 @@ pub(crate) fn is_mask(op: ImageOp) -> bool
 }
 
 /// Reads the bytes of a string over and over, until no more are taken.
+#[tactic(auto, using(crate::proofs::Over::of_empty, crate::proofs::Over::all_read, crate::proofs::Over::once_more))]
 fn read_over(reading: &mut Reading, bytes: &[u8]) -> Mem<()>
     ensures { OnOk result (reading.new ≡ read_over reading.old bytes.now) }
 {
