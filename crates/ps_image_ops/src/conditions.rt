@@ -59,9 +59,9 @@ fn sampling_by(
         (sampling.bits ≡ 1) ⊎ (sampling.bits ≡ 2) ⊎ (sampling.bits ≡ 4) ⊎ (sampling.bits ≡ 8)) }
     ensures decode { IfOk result (λ sampling. decode ≡ true) }
 {
-    let (Some(width), Some(height), Some(bits), true, Ok(matrix)) =
-        (width, height, bits, decode, matrix)
-    else {
+    let (Some(width), Some(height), Some(bits), true, Ok(matrix)) = (
+        width, height, bits, decode, matrix,
+    ) else {
         return Err(PsName::RangeCheck);
     };
     Ok(Sampling {
@@ -206,7 +206,12 @@ fn usual_gather(alloc: Global, channels: u8, sampling: &Sampling) -> Mem<Gather>
     match channels {
         1 => gather_by(alloc, 1, sampling, &[zero, one]),
         3 => gather_by(alloc, 3, sampling, &[zero, one, zero, one, zero, one]),
-        _ => gather_by(alloc, channels, sampling, &[zero, one, zero, one, zero, one, zero, one]),
+        _ => gather_by(
+            alloc,
+            channels,
+            sampling,
+            &[zero, one, zero, one, zero, one, zero, one],
+        ),
     }
 }
 

@@ -88,13 +88,7 @@ fn bits_in(mask: bool, store: &Store, dict: u32) -> Option<Whole>
 {
     match value_in(store, dict, b"BitsPerComponent") {
         Some(o) => integer(o),
-        None => {
-            if mask {
-                Some(Whole::of(1))
-            } else {
-                None
-            }
-        }
+        None => { if mask { Some(Whole::of(1)) } else { None } }
     }
 }
 
@@ -168,8 +162,7 @@ fn described(
         Some(matrix),
         Some(decode),
         Some(source),
-    ) = (image_type, width, height, bits, matrix, decode, source)
-    else {
+    ) = (image_type, width, height, bits, matrix, decode, source) else {
         return Err(PsName::TypeCheck);
     };
     if !is_type_one(image_type) {

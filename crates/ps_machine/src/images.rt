@@ -52,7 +52,13 @@ impl Body {
     }
 
     /// An image reads a string over and over.
-    fn read_string(&mut self, end: &mut End, reading: Reading, p: Part, operands: usize) -> Mem<Turn>
+    fn read_string(
+        &mut self,
+        end: &mut End,
+        reading: Reading,
+        p: Part,
+        operands: usize,
+    ) -> Mem<Turn>
         requires { operands ≤ length self.old.operands }
         ensures { IfOk result (λ turn.
             from_source (DataSource.Bytes p) reading (drop operands self.old.operands) self.old
@@ -94,7 +100,13 @@ impl Body {
     }
 
     /// The procedure of an image is called, in the place of so many operands.
-    fn call_source(&mut self, end: &mut End, reading: Reading, p: Part, operands: usize) -> Mem<Turn>
+    fn call_source(
+        &mut self,
+        end: &mut End,
+        reading: Reading,
+        p: Part,
+        operands: usize,
+    ) -> Mem<Turn>
         requires { operands ≤ length self.old.operands }
         ensures { IfOk result (λ turn. called reading p (drop operands self.old.operands) self.old
             ≡ step_of turn self.new end.new) }
