@@ -84,7 +84,7 @@ impl SampleFormat {
     }
 
     /// How many channels a colour has.
-    pub fn channel_count(&self) -> u8
+    pub(crate) fn channel_count(&self) -> u8
         ensures value { result ≡ self.now.channels }
         ensures channels { (result ≡ 1) ⊎ (result ≡ 3) ⊎ (result ≡ 4) }
     {

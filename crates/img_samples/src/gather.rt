@@ -136,11 +136,19 @@ impl Gather {
         self.rows.count
     }
 
-    /// How the data are read.
-    pub fn format(&self) -> &SampleFormat
-        ensures { result.now ≡ self.now.format }
+    /// How many columns of samples it has.
+    pub fn width(&self) -> u32
+        ensures { result ≡ self.now.format.width }
     {
-        &self.format
+        self.format.width
+    }
+
+    /// How many channels a colour has.
+    pub fn channels(&self) -> u8
+        ensures value { result ≡ self.now.format.channels }
+        ensures there { (result ≡ 1) ⊎ (result ≡ 3) ⊎ (result ≡ 4) }
+    {
+        self.format.channel_count()
     }
 
     /// How many codes the rows have that came whole.

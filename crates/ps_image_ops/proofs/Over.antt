@@ -1,5 +1,6 @@
 -- A string that is read over and over.
-use Rattle.std.proofs.Common.{◌≡◌, ◌∙◌, ◌≤◌, ◌<◌, ℕ, zero, suc, List, [], length, take, ap, sym, refl, inl, inr, arith}
+use Rattle.std.proofs.Common.{◌≡◌, ◌∙◌, ◌≤◌, ◌<◌, ℕ, zero, suc, List, [], ◌∷◌, length, take, ap, sym, refl}
+use Rattle.std.proofs.Common.{inl, inr, arith}
 use Rattle.std.specs.Prelude.{min}
 use Rattle.std.proofs.lemmas.Bool.{cases_lt}
 use Rattle.std.proofs.lemmas.List.{take_all}
@@ -20,25 +21,29 @@ however_often (suc n) r bytes none =
 
 -- an image that takes no more is what was to be read
 pub all_read : (r whole : ReadingValue) (bytes : List ℕ) →
-    ((n : ℕ) × (lacks r ≤ n) × (read_times n r bytes ≡ whole)) → lacks r ≡ 0 → whole ≡ r
-all_read r whole bytes (n, few, is) none = sym is ∙ however_often n r bytes none
+    ((n : ℕ) × (lacks r ≤ n) × (read_times n r bytes ≡ whole)) → lacks r ≡ 0 → r ≡ whole
+all_read r whole bytes (n, few, is) none = sym (however_often n r bytes none) ∙ is
 
-take_of_none : (k : ℕ) → take k [] ≡ []
+-- a string without bytes
+abbrev no_bytes : List ℕ
+no_bytes = []
+
+take_of_none : (k : ℕ) → take k no_bytes ≡ no_bytes
 take_of_none zero = refl
 take_of_none (suc k) = refl
 
--- an empty string gives nothing
-pub of_none : (n : ℕ) (r : ReadingValue) → read_times n r [] ≡ r
+of_none : (n : ℕ) (r : ReadingValue) → read_times n r no_bytes ≡ r
 unfolding read_times
 of_none zero r = refl
 of_none (suc n) r =
-    ap (λ bytes. let q : ReadingValue = record r { gather = fed r.gather bytes } in read_times n q [])
+    ap (λ bytes. let q : ReadingValue = record r { gather = fed r.gather bytes } in read_times n q no_bytes)
     (take_of_none (lacks r))
     ∙ of_none n r
 
--- a string without bytes
-pub of_empty : (n : ℕ) (r : ReadingValue) (bytes : List ℕ) → bytes ≡ [] → read_times n r bytes ≡ r
-of_empty n r bytes none = ap (λ b. read_times n r b) none ∙ of_none n r
+-- an empty string gives nothing
+pub of_empty : (n : ℕ) (r : ReadingValue) (bytes : List ℕ) → length bytes ≡ 0 → r ≡ read_times n r bytes
+of_empty n r [] none = sym (of_none n r)
+of_empty n r (byte ∷ bytes) none = absurd (omega (arith, none))
 
 -- one time more
 pub once_more : (r new whole : ReadingValue) (bytes : List ℕ) →

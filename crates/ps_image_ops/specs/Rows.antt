@@ -26,9 +26,12 @@ begun op told sampling s g = record {
   };
 }
 
--- what an image operator begins: its operands are of the right number and types, what they say is in range, and the
--- page has room for it
+-- what an image operator begins by what it is told: that is in range, and the page has room for it
+abbrev pub told_row : ImageOp → Parameters → StoreValue → GfxValue → Outcome Begun
+told_row op told s g =
+    or_refusal (sampling_of (is_mask op) told s) (λ sampling. or_refusal (fits_page told.channels sampling g)
+    (λ sampling. Goes (begun op told sampling s g)))
+
+-- what an image operator begins: its operands are of the right number and types, and what they say is allowed
 unfoldable pub image_row : ImageOp → List Obj → StoreValue → GfxValue → Outcome Begun
-image_row op operands s g =
-    or_refusal (told op operands s g) (λ told. or_refusal (sampling_of (is_mask op) told s)
-    (λ sampling. or_refusal (fits_page told.channels sampling g) (λ sampling. Goes (begun op told sampling s g))))
+image_row op operands s g = or_refusal (told op operands s g) (λ told. told_row op told s g)

@@ -3,6 +3,7 @@ ghost use Rattle.std.specs.Prelude.{◌≡◌, ◌<◌, ◌≤◌, ◌==◌, ◌
 ghost use Rattle.std.specs.Prelude.{pos, [], ◌∷◌, unsigned_abs};
 ghost use Rattle.std.specs.List.{repeat};
 ghost use Rattle.geo_matrix.specs.Affine.{det_of};
+ghost use Rattle.gfx_state.specs.CurrentPage.{has_sample_room};
 ghost use Rattle.img_map.specs.Map.{IsSmall};
 ghost use Rattle.img_samples.specs.Gathering.{nothing_of};
 ghost use Rattle.ps_gfx_ops.specs.Lines.{number_in};
@@ -58,9 +59,9 @@ fn sampling_by(
         (sampling.bits ≡ 1) ⊎ (sampling.bits ≡ 2) ⊎ (sampling.bits ≡ 4) ⊎ (sampling.bits ≡ 8)) }
     ensures decode { IfOk result (λ sampling. decode ≡ true) }
 {
-    let (Some(width), Some(height), Some(bits), true, Ok(matrix)) =
-        (width, height, bits, decode, matrix)
-    else {
+    let (Some(width), Some(height), Some(bits), true, Ok(matrix)) = (
+        width, height, bits, decode, matrix,
+    ) else {
         return Err(PsName::RangeCheck);
     };
     Ok(Sampling {
@@ -129,11 +130,27 @@ pub(crate) fn on_page(channels: u8, sampling: Sampling, gfx: &Gfx) -> Result<Sam
     if !is_small(&current) || !is_small(&sampling.matrix) {
         return Err(PsName::LimitCheck);
     }
-    let samples = u64::from(sampling.width) * u64::from(sampling.height);
-    if samples > 67_108_864 || !gfx.has_sample_room(samples * u64::from(channels)) {
+    if !has_room(samples(channels, &sampling), gfx) {
         return Err(PsName::LimitCheck);
     }
     Ok(sampling)
+}
+
+/// How many samples all rows have.
+fn samples(channels: u8, sampling: &Sampling) -> u128
+    requires { channels ≤ 4 }
+    ensures { result ≡ sampling.now.width * sampling.now.height * channels }
+{
+    u128::from(sampling.width) * u128::from(sampling.height) * u128::from(channels)
+}
+
+/// Whether the page has room for so many samples more.
+#[tactic(auto, using(crate::proofs::Room::room))]
+fn has_room(samples: u128, gfx: &Gfx) -> bool
+    ensures value { result ≡ has_sample_room gfx.now.page samples }
+    ensures few { IsTrue result → samples ≤ 67108864 }
+{
+    samples <= 67_108_864 && gfx.has_sample_room(samples as u64)
 }
 
 fn has_inverse(m: &Matrix) -> bool
@@ -189,7 +206,12 @@ fn usual_gather(alloc: Global, channels: u8, sampling: &Sampling) -> Mem<Gather>
     match channels {
         1 => gather_by(alloc, 1, sampling, &[zero, one]),
         3 => gather_by(alloc, 3, sampling, &[zero, one, zero, one, zero, one]),
-        _ => gather_by(alloc, channels, sampling, &[zero, one, zero, one, zero, one, zero, one]),
+        _ => gather_by(
+            alloc,
+            channels,
+            sampling,
+            &[zero, one, zero, one, zero, one, zero, one],
+        ),
     }
 }
 

@@ -1,5 +1,5 @@
 //! What an image operator is told by an image dictionary.
-ghost use Rattle.std.specs.Prelude.{◌≡◌, ◌≤◌, ◌⊎◌, IfOk, length};
+ghost use Rattle.std.specs.Prelude.{◌≡◌, ◌≤◌, IfOk, codes, length};
 ghost use Rattle.std.specs.Option.{option_copied, option_and_then};
 ghost use Rattle.ps_store.specs.declared.key.Key.TheVariants.{Named};
 ghost use Rattle.ps_image_ops.specs.Parameters.{value_in, has_key, integer_in, numbers_of, source_of, bits_by};
@@ -83,26 +83,20 @@ fn source_in(store: &Store, dict: u32, bytes: &[u8]) -> Option<DataSource>
 }
 
 /// The bits of a sample, which of a mask may be left out.
-fn bits_by(mask: bool, value: Option<&Obj>) -> Option<Whole>
-    ensures { result ≡ bits_by mask (option_copied value.now) }
+fn bits_in(mask: bool, store: &Store, dict: u32) -> Option<Whole>
+    ensures { result ≡ bits_by mask (value_in store.now dict (codes "BitsPerComponent")) }
 {
-    match value {
+    match value_in(store, dict, b"BitsPerComponent") {
         Some(o) => integer(o),
-        None => {
-            if mask {
-                Some(Whole::of(1))
-            } else {
-                None
-            }
-        }
+        None => { if mask { Some(Whole::of(1)) } else { None } }
     }
 }
 
 /// Decode, where it is left out or an array of numbers.
-fn decode_by(store: &Store, value: Option<&Obj>) -> Option<Decode>
-    ensures { result ≡ decode_by store.now (option_copied value.now) }
+fn decode_in(store: &Store, dict: u32) -> Option<Decode>
+    ensures { result ≡ decode_by store.now (value_in store.now dict (codes "Decode")) }
 {
-    match value {
+    match value_in(store, dict, b"Decode") {
         Some(o) => match numbers(store, o) {
             Some(p) => Some(Decode::Numbers(p)),
             None => None,
@@ -129,9 +123,9 @@ pub(crate) fn dictionary_image(
         integer_in(store, dict, b"ImageType"),
         integer_in(store, dict, b"Width"),
         integer_in(store, dict, b"Height"),
-        bits_by(mask, value_in(store, dict, b"BitsPerComponent")),
+        bits_in(mask, store, dict),
         numbers_in(store, dict, b"ImageMatrix"),
-        decode_by(store, value_in(store, dict, b"Decode")),
+        decode_in(store, dict),
         source_in(store, dict, b"DataSource"),
     )
 }
@@ -168,8 +162,7 @@ fn described(
         Some(matrix),
         Some(decode),
         Some(source),
-    ) = (image_type, width, height, bits, matrix, decode, source)
-    else {
+    ) = (image_type, width, height, bits, matrix, decode, source) else {
         return Err(PsName::TypeCheck);
     };
     if !is_type_one(image_type) {

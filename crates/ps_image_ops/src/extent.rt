@@ -1,5 +1,5 @@
 //! The heights on the page between which an image lies.
-ghost use Rattle.std.specs.Prelude.{◌≡◌, ◌<◌, ◌^◌, unsigned_abs, IfSome};
+ghost use Rattle.std.specs.Prelude.{◌≡◌, ◌<◌, ◌*◌, ◌^◌, pos, unsigned_abs, IfSome};
 ghost use Rattle.std.specs.Int.{int_min, int_max};
 ghost use Rattle.ps_image_ops.specs.Extent.{corner_height, extent_by, extent_of};
 

@@ -7,9 +7,7 @@ ghost use Rattle.ps_image_ops.specs.Parameters.{colour_image};
 ghost use Rattle.ps_image_ops.specs.Parameters.{dictionary_on_top, image_told, imagemask_told, colorimage_told, told};
 
 use crate::dictionary::dictionary_image;
-use crate::parameters::{
-    DataSource, Decode, Parameters, boolean, integer, numbers, size, source,
-};
+use crate::parameters::{DataSource, Decode, Parameters, boolean, integer, numbers, size, source};
 use gfx_state::{Gfx, Space};
 use press_fault::PsName;
 use press_nums::Whole;
@@ -17,7 +15,12 @@ use ps_store::{ImageOp, Obj, Part, Stack, Store};
 
 /// What an image operator is told.
 #[tactic(auto, unfolding(crate::specs::Parameters::told))]
-pub(crate) fn told(op: ImageOp, stack: &Stack, store: &Store, gfx: &Gfx) -> Result<Parameters, PsName>
+pub(crate) fn told(
+    op: ImageOp,
+    stack: &Stack,
+    store: &Store,
+    gfx: &Gfx,
+) -> Result<Parameters, PsName>
     ensures value { result ≡ told op stack.now store.now gfx.now }
     ensures enough { IfOk result (λ told. told.operands ≤ length stack.now) }
     ensures channels { IfOk result (λ told. (told.channels ≡ 1) ⊎ (told.channels ≡ 3) ⊎ (told.channels ≡ 4)) }
@@ -162,9 +165,9 @@ fn gray_image(
     ensures value { result ≡ gray_image width height bits matrix source }
     ensures form { IfOk result (λ told. (told.operands ≡ 5) × (told.channels ≡ 1)) }
 {
-    let (Some(width), Some(height), Some(bits), Some(matrix), Some(source)) =
-        (width, height, bits, matrix, source)
-    else {
+    let (Some(width), Some(height), Some(bits), Some(matrix), Some(source)) = (
+        width, height, bits, matrix, source,
+    ) else {
         return Err(PsName::TypeCheck);
     };
     Ok(Parameters {
@@ -190,9 +193,9 @@ fn operand_mask(
     ensures value { result ≡ operand_mask width height ones matrix source }
     ensures form { IfOk result (λ told. (told.operands ≡ 5) × (told.channels ≡ 1)) }
 {
-    let (Some(width), Some(height), Some(ones), Some(matrix), Some(source)) =
-        (width, height, ones, matrix, source)
-    else {
+    let (Some(width), Some(height), Some(ones), Some(matrix), Some(source)) = (
+        width, height, ones, matrix, source,
+    ) else {
         return Err(PsName::TypeCheck);
     };
     Ok(Parameters {
@@ -256,8 +259,7 @@ fn colour_image(
         Some(source),
         Some(apart),
         Some(components),
-    ) = (width, height, bits, matrix, source, apart, components)
-    else {
+    ) = (width, height, bits, matrix, source, apart, components) else {
         return Err(PsName::TypeCheck);
     };
     if apart {

@@ -1,5 +1,5 @@
 //! What an image operator is told, and what objects say of it.
-ghost use Rattle.std.specs.Prelude.{◌≡◌};
+ghost use Rattle.std.specs.Prelude.{◌≡◌, false};
 ghost use Rattle.ps_image_ops.specs.Parameters.{size_of, integer_of, boolean_of, numbers_of, source_of};
 
 use press_nums::Whole;

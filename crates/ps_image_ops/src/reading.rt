@@ -123,12 +123,14 @@ impl Reading {
     fn image(self) -> Image
         ensures { result ≡ image_of self }
     {
-        let (width, rows) = (self.gather.format().width, self.gather.rows());
+        let (width, rows) = (self.gather.width(), self.gather.rows());
+        // That there are few codes is what the proof wants of this.
+        let _codes = self.gather.codes();
         let extent = extent_of(&self.current, &self.matrix, width, rows);
         Image {
             width,
             rows,
-            channels: self.gather.format().channel_count(),
+            channels: self.gather.channels(),
             source: None,
             map: image_map(&self.current, &self.matrix),
             low: extent.low.narrow(),
@@ -150,7 +152,7 @@ pub(crate) fn is_mask(op: ImageOp) -> bool
 }
 
 /// Reads the bytes of a string over and over, until no more are taken.
-#[tactic(auto, using(crate::proofs::Over::of_empty, crate::proofs::Over::all_read, crate::proofs::Over::once_more))]
+#[tactic(auto, using(crate::proofs::Over::of_empty))]
 fn read_over(reading: &mut Reading, bytes: &[u8]) -> Mem<()>
     ensures { OnOk result (reading.new ≡ read_over reading.old bytes.now) }
 {

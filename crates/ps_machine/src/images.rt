@@ -1,11 +1,12 @@
 //! Images that are read.
-ghost use Rattle.std.specs.Prelude.{◌≡◌, ◌≤◌, IfOk, OnErr, true, drop, length};
+ghost use Rattle.std.specs.Prelude.{◌≡◌, ◌≤◌, IfOk, OnOk, OnErr, true, drop, length};
 ghost use Rattle.ps_machine.specs.Memory.{takes_memory};
 ghost use Rattle.ps_store.specs.declared.oper.Oper.TheVariants.{Image as OnImage};
 ghost use Rattle.ps_store.specs.Operators.{name_of};
+ghost use Rattle.ps_image_ops.specs.Reading.{lacks, read_on};
 ghost use Rattle.ps_image_ops.specs.Rows.{image_row};
 ghost use Rattle.ps_machine.specs.Images.{after_image, begins, from_source, finished, called, returned, reads_on};
-ghost use Rattle.ps_machine.specs.Images.{after_procedure};
+ghost use Rattle.ps_machine.specs.Images.{after_procedure, behind_bytes};
 ghost use Rattle.ps_store.specs.Store.{bytes_of};
 ghost use Rattle.ps_machine.specs.Meaning.{step_of};
 
@@ -52,7 +53,13 @@ impl Body {
     }
 
     /// An image reads a string over and over.
-    fn read_string(&mut self, end: &mut End, reading: Reading, p: Part, operands: usize) -> Mem<Turn>
+    fn read_string(
+        &mut self,
+        end: &mut End,
+        reading: Reading,
+        p: Part,
+        operands: usize,
+    ) -> Mem<Turn>
         requires { operands ≤ length self.old.operands }
         ensures { IfOk result (λ turn.
             from_source (DataSource.Bytes p) reading (drop operands self.old.operands) self.old
@@ -71,9 +78,19 @@ impl Body {
             ≡ step_of turn self.new end.new) }
     {
         let mut reading = reading;
+        self.take_text(&mut reading)?;
+        self.finish(end, reading, operands)
+    }
+
+    /// An image takes its bytes from the text, which goes on behind them.
+    #[tactic(auto, using(crate::proofs::Skipping::skipped))]
+    fn take_text(&mut self, reading: &mut Reading) -> Mem<()>
+        ensures read { OnOk result (reading.new ≡ read_on reading.old self.old.text.rest) }
+        ensures behind { OnOk result (self.new ≡ behind_bytes (lacks reading.old) self.old) }
+    {
         let count = reading.read(self.text.rest())?;
         self.text.skip(count);
-        self.finish(end, reading, operands)
+        Ok(())
     }
 
     /// An image whose data have come is painted, in the place of so many operands.
@@ -94,7 +111,13 @@ impl Body {
     }
 
     /// The procedure of an image is called, in the place of so many operands.
-    fn call_source(&mut self, end: &mut End, reading: Reading, p: Part, operands: usize) -> Mem<Turn>
+    fn call_source(
+        &mut self,
+        end: &mut End,
+        reading: Reading,
+        p: Part,
+        operands: usize,
+    ) -> Mem<Turn>
         requires { operands ≤ length self.old.operands }
         ensures { IfOk result (λ turn. called reading p (drop operands self.old.operands) self.old
             ≡ step_of turn self.new end.new) }
@@ -120,9 +143,11 @@ impl Body {
     pub(crate) fn return_to_operator(&mut self, end: &mut End) -> Mem<Turn>
         ensures { IfOk result (λ turn. returned self.old.frames self.old ≡ step_of turn self.new end.new) }
     {
-        match self.frames.pop() {
-            Some(Frame::Image(p, reading)) => self.read_what_was_left(end, reading, p),
-            None => Ok(Turn::Went),
+        let Some(frame) = self.frames.pop() else {
+            return Ok(Turn::Went);
+        };
+        match frame {
+            Frame::Image(p, reading) => self.read_what_was_left(end, reading, p),
         }
     }
 
