@@ -75,9 +75,9 @@ def forall(machine, whole, body):
 
 @operator((), name='exit')
 def exit_(machine):
-    """Leaves the innermost loop; no `stopped` may stand between."""
+    """Leaves the innermost loop; no `stopped` and no image's procedure may stand between."""
     places = [at for at, level in enumerate(machine.levels) if level.kind != 'procedure']
-    refuse_if(not places or machine.levels[places[-1]].kind == 'stopped', 'invalidexit')
+    refuse_if(not places or machine.levels[places[-1]].kind in ('stopped', 'image'), 'invalidexit')
     del machine.levels[places[-1]:]
 
 

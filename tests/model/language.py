@@ -72,12 +72,12 @@ def limited(number):
 class Level:
     """A procedure that runs, a loop with its body, or a `stopped` with what it runs.
 
-    A loop has its turns: what each of them pushes. It goes when the next object is asked for and
-    nothing is left.
+    A loop has its turns: what each of them pushes. A procedure that an operator called has what that
+    does once it has ended. A level goes when the next object is asked for and nothing is left.
     """
 
-    def __init__(self, kind, body=None, turns=None):
-        self.kind, self.body, self.turns = kind, body, turns
+    def __init__(self, kind, body=None, turns=None, returned=None):
+        self.kind, self.body, self.turns, self.returned = kind, body, turns, returned
         self.next = 0 if turns is None and body else None
 
     def next_object(self):
@@ -138,6 +138,9 @@ class Machine:
             self.levels.pop()
             if level.kind == 'stopped':
                 self.push(Boolean(False), 'stopped')
+                return True
+            if level.returned:
+                level.returned(self)
                 return True
         return False
 

@@ -79,6 +79,9 @@ class Mark:
         return (any(shape.holds(x, y, self.rule) for shape in self.shapes)
                 and all(region.holds(x, y, rule) for region, rule in self.clip))
 
+    def rgb_at(self, _x, _y):
+        return self.rgb
+
 
 def line_on(path, points):
     """A path with lines to more points; after closepath they are a new subpath (8.2 closepath)."""
@@ -98,6 +101,7 @@ class Page:
         self.shown = []
         self.marks = []
         self.saved = []
+        self.samples = 0
         self.initgraphics()
 
     def default_matrix(self):
@@ -111,7 +115,7 @@ class Page:
                  for column in range(self.columns)] for row in range(self.rows)]
 
     def colour_at(self, x, y):
-        return next((mark.rgb for mark in reversed(self.marks) if mark.covers(x, y)), WHITE)
+        return next((mark.rgb_at(x, y) for mark in reversed(self.marks) if mark.covers(x, y)), WHITE)
 
     def change(self, **fields):
         self.state = replace(self.state, **fields)
@@ -122,6 +126,8 @@ class Page:
         self.state = State(self.default_matrix())
 
     def gsave(self):
+        if len(self.saved) >= 32:
+            raise Refusal('limitcheck')
         self.saved.append(self.state)
 
     def grestore(self):
@@ -141,6 +147,7 @@ class Page:
 
     def erasepage(self):
         self.marks = []
+        self.samples = 0
 
     # Line parameters (8.2); a width is taken without its sign.
 
@@ -311,6 +318,14 @@ class Page:
     def rectstroke(self, *numbers):
         closed = [(self.rectangle(*numbers), True)]
         self.mark(outline(closed, self.state.matrix, self.state.lines))
+
+    def place(self, picture, samples):
+        """A mark of an image of so many samples."""
+        self.marks.append(picture)
+        self.samples += samples
+
+    def rgb_of(self, codes):
+        return Colour(codes).rgb()
 
     def mark(self, shapes, rule='nonzero'):
         self.marks.append(Mark(shapes, rule, self.state.clip, self.state.colour.rgb()))

@@ -8,11 +8,11 @@ import pathlib, re, subprocess, sys, tempfile
 # Paints the dot of a page of one dot black or white, whatever graphics state the program leaves.
 ANSWER = ' {0} {1} ifelse initgraphics setgray 0 0 1 1 rectfill showpage'
 ANSWERS = {b'P6\n1 1\n255\n\0\0\0': 'true', b'P6\n1 1\n255\n\xff\xff\xff': 'false'}
-LETTERS = {b'\xff\xff\xff': 'W', b'\0\0\0': 'B', b'\xff\0\0': 'R'}
+LETTERS = {b'\xff\xff\xff': 'W', b'\0\0\0': 'B', b'\xff\0\0': 'R', b'\x80\x80\x80': 'G'}
 ERROR = re.compile(r'[a-z]+ in \S+')
 LEFT = re.compile(r'leaves((?: (?:\([^()]*\)|[^\s()]+))*)')
 DOTS = re.compile(r'(?P<size>\d+x\d+)(?: at (?P<res>\d+))?(?: > (?P<page>\d+x\d+))?'
-                  r': (?P<rows>[WBR]+(?: [WBR]+)*)')
+                  r': (?P<rows>[WBRG]+(?: [WBRG]+)*)')
 
 
 def is_operand(value):

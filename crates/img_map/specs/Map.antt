@@ -1,6 +1,7 @@
 -- The map from dots to samples (PostScript Language Reference, third edition, 4.10 Images: the image matrix maps user
 -- space to image space, and the inverse of the current matrix maps device space to user space).
-use Rattle.std.specs.Prelude.{ℤ, pos, negsuc, neg_ℤ, ◌+ℤ◌, ◌-ℤ◌, ◌*ℤ◌, ◌<◌, ◌^◌, unsigned_abs, int_lt, if◌then◌else◌}
+use Rattle.std.specs.Prelude.{ℤ, pos, negsuc, neg_ℤ, ◌+ℤ◌, ◌-ℤ◌, ◌*ℤ◌, ◌<◌, ◌^◌, ◌&&◌, Bool, nat_lt, unsigned_abs}
+use Rattle.std.specs.Prelude.{int_lt, if◌then◌else◌}
 use Rattle.geo_matrix.specs.Affine.{MatrixValue, det_of}
 use Rattle.page_model.specs.Image.{ImageMapValue}
 
@@ -58,3 +59,13 @@ pub record IsSmall (m : MatrixValue) : Type 0 where
   pub d : unsigned_abs m.d < 2 ^ 36
   pub tx : unsigned_abs m.tx < 2 ^ 36
   pub ty : unsigned_abs m.ty < 2 ^ 36
+
+-- whether an element is below 2^20
+abbrev pub is_small_element : ℤ → Bool
+is_small_element raw = nat_lt (unsigned_abs raw) (2 ^ 36)
+
+-- whether each element of a matrix is below 2^20
+abbrev pub is_small : MatrixValue → Bool
+is_small m =
+    is_small_element m.a && is_small_element m.b && is_small_element m.c && is_small_element m.d
+    && is_small_element m.tx && is_small_element m.ty

@@ -1,7 +1,7 @@
 //! The map from dots to samples.
 ghost use Rattle.std.specs.Prelude.{◌≡◌, ◌<◌, ◌^◌, ◌*◌, ◌↔◌, IsTrue, ℤ, pos, unsigned_abs, ◌<ℤ◌, ◌-ℤ◌, ◌*ℤ◌};
 ghost use Rattle.geo_matrix.specs.Affine.{det_of};
-ghost use Rattle.img_map.specs.Map.{IsSmall, exact_map_of, turned, image_map_of};
+ghost use Rattle.img_map.specs.Map.{IsSmall, is_small, is_small_element, exact_map_of, turned, image_map_of};
 
 use geo_matrix::Matrix;
 use page_model::ImageMap;
@@ -27,7 +27,8 @@ pub fn image_map(m: &Matrix, image: &Matrix) -> ImageMap
 
 /// Whether each element of a matrix is so small that an image may have it: below 2^20.
 pub fn is_small(m: &Matrix) -> bool
-    ensures { IsTrue result ↔ IsSmall m.now }
+    ensures value { result ≡ is_small m.now }
+    ensures small { IsTrue result ↔ IsSmall m.now }
 {
     is_small_element(m.a)
         && is_small_element(m.b)
@@ -38,7 +39,8 @@ pub fn is_small(m: &Matrix) -> bool
 }
 
 fn is_small_element(element: Fix) -> bool
-    ensures { IsTrue result ↔ (unsigned_abs element < 2 ^ 36) }
+    ensures value { result ≡ is_small_element element }
+    ensures small { IsTrue result ↔ (unsigned_abs element < 2 ^ 36) }
 {
     element.wide().size() < 0x10_0000_0000
 }

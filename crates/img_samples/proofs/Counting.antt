@@ -1,6 +1,6 @@
 -- Counts of bytes, of rows that end with them, and of codes.
 use Rattle.std.proofs.Common.{◌≡◌, ◌∙◌, ℕ, zero, suc, min, ◌+◌, ◌*◌, ◌-◌, ◌/◌, ◌<◌, ◌≤◌, arith, ap, subst, sym}
-use Rattle.std.proofs.Math.Nat.{mul-div-le, lt-mul-div-succ, mul-le-mul_left, div-le_of_le-mul}
+use Rattle.std.proofs.Math.Nat.{mul-div-le, lt-mul-div-succ, mul-le-mul_left, div-le_of_le-mul, mul_assoc, mul_comm}
 
 -- of rows that end with these bytes, one ends with those that are left
 pub one_more_ends : (size i ends total now : ℕ) → i < ends → ends ≡ total / size → now + size * i ≡ total → size ≤ now
@@ -104,3 +104,14 @@ fewer_missing size ends now part bytes rows height count is inside fit left few 
 -- the bytes since the last row that ended are no more than those of the rows that are missing
 pub total_fits : (most part bytes : ℕ) → part ≤ most → bytes ≤ most - part → part + bytes ≤ most
 total_fits most part bytes some few = omega arith
+
+-- three factors in another order
+pub last_two : (a b c : ℕ) → a * b * c ≡ a * c * b
+last_two a b c = mul_assoc a b c ∙ (ap (λ n. a * n) (mul_comm b c) ∙ sym (mul_assoc a c b))
+
+-- the codes of the rows that came are no more than those of all rows
+pub few_codes : (width height channels rows codes : ℕ) → codes ≡ width * channels * rows → rows ≤ height →
+    width * height * channels ≤ 67108864 → codes ≤ 67108864
+few_codes width height channels rows codes are less few =
+    let most : width * channels * rows ≤ width * channels * height = mul-le-mul_left (width * channels) less in
+    let all : width * channels * height ≡ width * height * channels = last_two width channels height in omega arith

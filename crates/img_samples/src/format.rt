@@ -83,6 +83,14 @@ impl SampleFormat {
         &self.decode
     }
 
+    /// How many channels a colour has.
+    pub(crate) fn channel_count(&self) -> u8
+        ensures value { result ≡ self.now.channels }
+        ensures channels { (result ≡ 1) ⊎ (result ≡ 3) ⊎ (result ≡ 4) }
+    {
+        self.channels
+    }
+
     /// How many rows of samples there are.
     pub(crate) fn rows(&self) -> u32
         ensures value { result ≡ self.now.height }

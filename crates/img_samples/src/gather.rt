@@ -103,6 +103,7 @@ impl Gather {
         ensures taken { IfOk result (λ n. n ≡ min (length bytes.now) (missing self.old)) }
         ensures ok { IfOk result (λ n. self.new ≡ fed self.old (take n bytes.now)) }
         ensures left { IfOk result (λ n. missing self.new ≡ missing self.old - n) }
+        ensures format { self.new.format ≡ self.old.format }
         ensures err { OnErr result (self.new ≡ self.old) }
     {
         let (taken, _) = bytes.split_at(bytes.len().min(self.missing()));
@@ -133,6 +134,32 @@ impl Gather {
         ensures { result ≡ self.now.rows }
     {
         self.rows.count
+    }
+
+    /// How many columns of samples it has.
+    pub fn width(&self) -> u32
+        ensures { result ≡ self.now.format.width }
+    {
+        self.format.width
+    }
+
+    /// How many channels a colour has.
+    pub fn channels(&self) -> u8
+        ensures value { result ≡ self.now.format.channels }
+        ensures there { (result ≡ 1) ⊎ (result ≡ 3) ⊎ (result ≡ 4) }
+    {
+        self.format.channel_count()
+    }
+
+    /// How many codes the rows have that came whole.
+    pub fn codes(&self) -> usize
+        ensures count { result ≡ length self.now.codes }
+        ensures size { result ≡ self.now.format.width * self.now.format.channels * self.now.rows }
+        ensures few { result ≤ 67108864 }
+    {
+        // That all rows have few codes is what the proof wants of this.
+        let _height = self.format.rows();
+        self.rows.codes.len()
     }
 
     /// The codes of the rows that came whole, and no others. It takes no memory.

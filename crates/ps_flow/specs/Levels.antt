@@ -1,6 +1,8 @@
 -- The execution stack (PostScript Language Reference, third edition, 3.4 Stacks and 3.5.3 Execution of Specific
 -- Types): the levels that are open, the innermost first. Own rules: what counts as a level, and when one goes.
-use Rattle.std.specs.Prelude.{ℤ, ◌+◌, ◌-◌, ◌==◌, Bool, true, false, List, [], ◌∷◌, Option, Some, None, if◌then◌else◌}
+use Rattle.std.specs.Prelude.{ℕ, ℤ, ◌+◌, ◌-◌, ◌==◌, ◌||◌, Bool, true, false, List, [], ◌∷◌, Option, Some, None}
+use Rattle.std.specs.Prelude.{if◌then◌else◌}
+use Rattle.std.specs.List.{count_by}
 use Rattle.ps_store.specs.declared.oper.FlowOp.{FlowOp}
 use Rattle.ps_store.specs.declared.oper.FlowOp.TheVariants.{Repeat as RepeatOp, Loop as LoopOp, For as ForOp}
 use Rattle.ps_store.specs.declared.oper.FlowOp.TheVariants.{Forall as ForallOp}
@@ -10,7 +12,8 @@ use Rattle.ps_flow.specs.declared.counter.Counter.{Counter}
 use Rattle.ps_flow.specs.declared.pushes.Pushes.{Pushes}
 use Rattle.ps_flow.specs.declared.pushes.Pushes.TheVariants.{Nothing, One, Two}
 use Rattle.ps_flow.specs.declared.level.Level.{Level}
-use Rattle.ps_flow.specs.declared.level.Level.TheVariants.{Procedure, Stopped, Loop, Repeat, For, Forall, ForallEntries}
+use Rattle.ps_flow.specs.declared.level.Level.TheVariants.{Procedure, Stopped, Guarded, Loop, Repeat, For, Forall}
+use Rattle.ps_flow.specs.declared.level.Level.TheVariants.{ForallEntries}
 use Rattle.ps_flow.specs.declared.level.NextObj.{NextObj}
 use Rattle.ps_flow.specs.declared.level.NextObj.TheVariants as Code
 use Rattle.ps_flow.specs.declared.level.Offer.{Offer}
@@ -26,17 +29,21 @@ abbrev pub nothing_of : PartValue → PartValue
 nothing_of p = record { id = p.id; start = 0; len = 0 }
 
 -- what comes next: the object at the first place of a part of a procedure, a turn of a loop with what it pushes, the
--- end of a stopped, which gives false, or nothing, as no level is open
+-- end of a stopped, which gives false, the end of a guarded procedure, which goes back to the operator that called it,
+-- or nothing, as no level is open
 pub data Upcoming : Type 0 where
   Run : PartValue → Upcoming
   Turn : FlowOp → Pushes → Upcoming
   Passed : Upcoming
+  Returned : Upcoming
   Empty : Upcoming
 
--- what a level gives: nothing, and it goes; nothing, and it goes as a stopped; or what comes next, and it stays
+-- what a level gives: nothing, and it goes; nothing, and it goes as a stopped, or as a guarded procedure; or what comes
+-- next, and it stays
 pub data Advance : Type 0 where
   Ends : Advance
   Passes : Advance
+  Returns : Advance
   Gives : Upcoming → Advance
 
 -- what a level gives when the next object is asked for, and the level then
@@ -91,6 +98,7 @@ entries_given ((key, value) ∷ left) body rest = begins ForallOp (Two key value
 abbrev pub given_of : Level → Given
 given_of (Procedure rest) = running rest Procedure (ends (Procedure rest))
 given_of (Stopped rest) = running rest Stopped (record { gives = Passes; level = Stopped rest })
+given_of (Guarded rest) = running rest Guarded (record { gives = Returns; level = Guarded rest })
 given_of (Loop body rest) = running rest (Loop body) (begins LoopOp Nothing (Loop body body))
 given_of (Repeat left body rest) = running rest (Repeat left body)
     (if left == 0 then ends (Repeat left body rest) else begins RepeatOp Nothing (Repeat (left - 1) body body))
@@ -108,10 +116,11 @@ pub record Next : Type 0 where
 abbrev pub after : Advance → Level → List Level → Next → Next
 after Ends level below further = further
 after Passes level below further = record { next = Passed; levels = below }
+after Returns level below further = record { next = Returned; levels = below }
 after (Gives next) level below further = record { next = next; levels = level ∷ below }
 
 -- what comes next, and the levels then: a level that gives nothing goes, and the one below it is asked, but a `stopped`
--- that goes is told first; so a level stays while its last object is executed
+-- or a guarded procedure that goes is told first; so a level stays while its last object is executed
 abbrev pub next_of : List Level → Next
 next_of [] = record { next = Empty; levels = [] }
 next_of (level ∷ below) = after (given_of level).gives (given_of level).level below (next_of below)
@@ -122,12 +131,14 @@ told (Code.Run place) pushes = Run place
 told (Code.Turn op) pushes = Turn op Nothing
 told (Code.TurnWith op) pushes = Turn op pushes
 told Code.Passed pushes = Passed
+told Code.Returned pushes = Returned
 told Code.Empty pushes = Empty
 
 -- the same of what a level gives
 abbrev pub offered : Offer → Pushes → Advance
 offered Offered.Ends pushes = Ends
 offered Offered.Passes pushes = Passes
+offered Offered.Returns pushes = Returns
 offered (Offered.Gives next) pushes = Gives (told next pushes)
 
 -- whether a level is that of a `stopped`
@@ -135,19 +146,36 @@ abbrev pub is_stopped : Level → Bool
 is_stopped (Stopped rest) = true
 is_stopped level = false
 
+-- whether a level is that of a procedure that an operator called, as `image` calls its data source
+abbrev pub is_guarded : Level → Bool
+is_guarded (Guarded rest) = true
+is_guarded level = false
+
 -- whether a level is that of a loop
 abbrev pub is_loop : Level → Bool
-is_loop (Procedure rest) = false
-is_loop (Stopped rest) = false
-is_loop level = true
+is_loop (Loop body rest) = true
+is_loop (Repeat left body rest) = true
+is_loop (For next limit body rest) = true
+is_loop (Forall left body rest) = true
+is_loop (ForallEntries left body rest) = true
+is_loop level = false
+
+-- whether `exit` doesn't pass a level: a `stopped` and a guarded procedure
+abbrev pub holds_exit : Level → Bool
+holds_exit level = is_stopped level || is_guarded level
+
+-- how many of these levels are guarded procedures
+abbrev pub guarded_in : List Level → ℕ
+guarded_in levels = count_by is_guarded levels
 
 -- the levels below the innermost `stopped`, none where there is none
 abbrev pub below_stopped : List Level → Option (List Level)
 below_stopped [] = None
 below_stopped (level ∷ below) = if is_stopped level then Some below else below_stopped below
 
--- the levels below the innermost loop, None where there is none or a stopped stands between
+-- the levels below the innermost loop, none where there is none, or where a level stands between that `exit` doesn't
+-- pass
 abbrev pub below_loop : List Level → Option (List Level)
 below_loop [] = None
 below_loop (level ∷ below) =
-    if is_loop level then Some below else (if is_stopped level then None else below_loop below)
+    if is_loop level then Some below else (if holds_exit level then None else below_loop below)

@@ -1,7 +1,7 @@
 //! The execution stack.
 ghost use Rattle.std.specs.Prelude.{◌≡◌, ◌≤◌, ◌<◌, ◌∷◌, [], ◌↔◌, length, IsErr, OnOk, OnErr, OnSome, MatchOption, Some};
 ghost use Rattle.std.specs.Prelude.{None, true, false, take, reverse};
-ghost use Rattle.ps_flow.specs.Levels.{next_of, told, below_stopped, below_loop, Next};
+ghost use Rattle.ps_flow.specs.Levels.{next_of, told, below_stopped, below_loop, guarded_in, Next};
 
 use crate::level::{Level, NextObj, Offer, given};
 use crate::pushes::Pushes;
@@ -63,6 +63,19 @@ impl Flow {
         self.items.push(level);
     }
 
+    /// Opens a level, refused where all levels are open.
+    fn open_within(&mut self, level: Level) -> Result<(), ExecStackOverflow>
+        ensures ok { OnOk result (self.new ≡ level ∷ self.old) }
+        ensures full { IsErr result ↔ (250 ≤ length self.old) }
+        ensures err { OnErr result (self.new ≡ self.old) }
+    {
+        if self.is_full() {
+            return Err(ExecStackOverflow);
+        }
+        self.open(level);
+        Ok(())
+    }
+
     /// Opens a level that runs the elements of a procedure, as for one found by a name. Where
     /// all levels are open it is refused, and they are as before.
     pub fn call(&mut self, p: Part) -> Result<(), ExecStackOverflow>
@@ -70,11 +83,25 @@ impl Flow {
         ensures full { IsErr result ↔ (250 ≤ length self.old) }
         ensures err { OnErr result (self.new ≡ self.old) }
     {
-        if self.is_full() {
-            return Err(ExecStackOverflow);
-        }
-        self.open(Level::Procedure(p));
-        Ok(())
+        self.open_within(Level::Procedure(p))
+    }
+
+    /// Opens a level that runs the elements of a procedure for an operator, which goes on when it has
+    /// ended: `next_object` answers `Returned` then. `exit` doesn't pass it. Where all levels are open it
+    /// is refused, and they are as before.
+    pub fn call_guarded(&mut self, p: Part) -> Result<(), ExecStackOverflow>
+        ensures ok { OnOk result (self.new ≡ Level.Guarded p ∷ self.old) }
+        ensures full { IsErr result ↔ (250 ≤ length self.old) }
+        ensures err { OnErr result (self.new ≡ self.old) }
+    {
+        self.open_within(Level::Guarded(p))
+    }
+
+    /// How many levels are procedures that operators called.
+    pub fn guarded(&self) -> usize
+        ensures { result ≡ guarded_in self.now }
+    {
+        count_guarded(self.items.as_slice())
     }
 
     /// What comes next. A level that has nothing left goes. What a turn pushes is left in `pushes`.
@@ -100,7 +127,7 @@ impl Flow {
     }
 
     /// Cuts the levels back to the innermost loop, which goes; false exactly where there is none or
-    /// a `stopped` stands between, with the levels as before.
+    /// a level stands between that `exit` doesn't pass, with the levels as before.
     pub(crate) fn leave_loop(&mut self) -> bool
         ensures yes { result ≡ true → below_loop self.old ≡ Some self.new }
         ensures no { result ≡ false → (below_loop self.old ≡ None) × (self.new ≡ self.old) }
@@ -127,6 +154,10 @@ fn next_in(items: &mut ArrayVec<Level, MAX_LEVELS>, pushes: &mut Pushes) -> Next
             Offer::Passes => {
                 items.truncate(at);
                 return NextObj::Passed;
+            }
+            Offer::Returns => {
+                items.truncate(at);
+                return NextObj::Returned;
             }
             Offer::Gives(next) => return next,
         }
@@ -160,9 +191,24 @@ fn place_of_loop(levels: &[Level]) -> Option<usize>
         if levels[at].is_loop() {
             return Some(at);
         }
-        if levels[at].is_stopped() {
+        if levels[at].holds_exit() {
             return None;
         }
     }
     None
+}
+
+/// How many of these levels, outermost first, are procedures that operators called.
+fn count_guarded(levels: &[Level]) -> usize
+    ensures { result ≡ guarded_in (reverse levels.now) }
+{
+    let mut at = levels.len();
+    let mut guarded = 0;
+    while at > 0 {
+        at -= 1;
+        if levels[at].is_guarded() {
+            guarded += 1;
+        }
+    }
+    guarded
 }

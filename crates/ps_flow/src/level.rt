@@ -1,7 +1,8 @@
 //! Levels of the execution stack.
 ghost use Rattle.std.specs.Prelude.{◌≡◌, ◌<◌};
 ghost use Rattle.ps_flow.specs.declared.pushes.Pushes.{Pushes as Pushed};
-ghost use Rattle.ps_flow.specs.Levels.{given_of, offered, begins, for_turn, behind, nothing_of, is_stopped, is_loop};
+ghost use Rattle.ps_flow.specs.Levels.{given_of, offered, begins, for_turn, behind, nothing_of, is_stopped, is_guarded};
+ghost use Rattle.ps_flow.specs.Levels.{is_loop, holds_exit};
 ghost use Rattle.ps_flow.specs.Code.Turns.{begun, leaving};
 
 use crate::contents::{Objects, Pairs};
@@ -10,13 +11,17 @@ use crate::pushes::Pushes;
 use press_nums::Fix;
 use ps_store::{FlowOp, Obj, Part};
 
-/// A level: a procedure that runs, a loop with its body, or a `stopped` with what it runs.
+/// A level: a procedure that runs, a loop with its body, a `stopped` with what it runs, or a procedure
+/// that an operator called and that it waits for.
 ///
 /// `rest` is the part of its procedure that hasn't run yet in this turn.
 #[derive(Drop)]
 pub enum Level {
     Procedure(Part),
     Stopped(Part),
+    /// A procedure that an operator called, as `image` calls its data source: its end is told, and
+    /// `exit` doesn't pass it.
+    Guarded(Part),
     Loop {
         body: Part,
         rest: Part,
@@ -75,14 +80,33 @@ impl Level {
         }
     }
 
+    pub(crate) fn is_guarded(&self) -> bool
+        ensures { result ≡ is_guarded self.now }
+    {
+        match self {
+            Level::Guarded(_) => true,
+            _ => false,
+        }
+    }
+
     pub(crate) fn is_loop(&self) -> bool
         ensures { result ≡ is_loop self.now }
     {
         match self {
-            Level::Procedure(_) => false,
-            Level::Stopped(_) => false,
-            _ => true,
+            Level::Loop { .. } => true,
+            Level::Repeat { .. } => true,
+            Level::For { .. } => true,
+            Level::Forall { .. } => true,
+            Level::ForallEntries { .. } => true,
+            _ => false,
         }
+    }
+
+    /// Whether `exit` doesn't pass it.
+    pub(crate) fn holds_exit(&self) -> bool
+        ensures { result ≡ holds_exit self.now }
+    {
+        self.is_stopped() || self.is_guarded()
     }
 }
 
@@ -98,6 +122,8 @@ pub enum NextObj {
     TurnWith(FlowOp),
     /// A `stopped` has ended, and its level is gone: false is to be pushed.
     Passed,
+    /// A procedure that an operator called has ended, and its level is gone: the operator goes on.
+    Returned,
     /// No level is open.
     Empty,
 }
@@ -109,6 +135,8 @@ pub enum Offer {
     Ends,
     /// Nothing, and it is a `stopped`: the level goes.
     Passes,
+    /// Nothing, and it is a procedure that an operator called: the level goes.
+    Returns,
     /// What comes next: the level stays.
     Gives(NextObj),
 }
@@ -120,6 +148,7 @@ pub(crate) fn given(level: &mut Level, pushes: &mut Pushes) -> Offer
     match level {
         Level::Procedure(rest) => next_place(rest, Offer::Ends),
         Level::Stopped(rest) => next_place(rest, Offer::Passes),
+        Level::Guarded(rest) => next_place(rest, Offer::Returns),
         Level::Loop { body, rest } => loop_given(*body, rest),
         Level::Repeat { left, body, rest } => repeat_given(left, *body, rest),
         Level::For {

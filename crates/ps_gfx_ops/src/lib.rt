@@ -14,4 +14,6 @@ mod rectangles;
 mod rows;
 mod states;
 
+pub use lines::numbers;
+pub use matrices::{are_numbers, matrix_of};
 pub use rows::run_gfx;

@@ -164,7 +164,7 @@ fn are_zero(objects: &[Obj]) -> bool
 }
 
 /// The numbers that objects are, 0 for one that is none.
-fn numbers(alloc: Global, objects: &[Obj]) -> Mem<Vec<Fix>>
+pub fn numbers(alloc: Global, objects: &[Obj]) -> Mem<Vec<Fix>>
     ensures { IfOk result (λ numbers. numbers.items ≡ map number_in objects.now) }
 {
     let mut numbers = Vec::new(alloc);

@@ -90,8 +90,9 @@ fn one_matrix(stack: &Stack, store: &Store) -> Result<Matrix, PsName>
     matrix_of(store.objects(*span))
 }
 
-/// The matrix that six objects are.
-fn matrix_of(objects: &[Obj]) -> Result<Matrix, PsName>
+/// The matrix that six objects are: typecheck where one of them is no number, else rangecheck where there are
+/// not six of them.
+pub fn matrix_of(objects: &[Obj]) -> Result<Matrix, PsName>
     ensures { result ≡ matrix_of objects.now }
 {
     if !are_numbers(objects) {
@@ -104,7 +105,7 @@ fn matrix_of(objects: &[Obj]) -> Result<Matrix, PsName>
 }
 
 /// Whether each object is a number.
-pub(crate) fn are_numbers(objects: &[Obj]) -> bool
+pub fn are_numbers(objects: &[Obj]) -> bool
     ensures { result ≡ list_all is_number objects.now }
 {
     objects.iter().all(|o| number(o).is_some())

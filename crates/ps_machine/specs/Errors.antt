@@ -10,7 +10,7 @@ use Rattle.ps_flow.specs.declared.level.Level.{Level}
 use Rattle.ps_flow.specs.Levels.{is_stopped}
 use Rattle.ps_machine.specs.declared.turn.End.{End}
 use Rattle.ps_machine.specs.declared.turn.End.TheVariants.{Ps}
-use Rattle.ps_machine.specs.State.{BodyValue}
+use Rattle.ps_machine.specs.State.{BodyValue, cut_back_to}
 
 -- the program goes on, shows a page and goes on, or ends
 pub data StepOutcome : Type 0 where
@@ -33,9 +33,11 @@ caught name command (level ∷ below) operands =
     else caught StackOverflow (codes "stopped") below operands)
     else caught name command below operands
 
--- the step by where an error goes: the program goes on there with all else as it is, or ends by it
+-- the step by where an error goes: the program goes on there with all else as it is, without the operators whose
+-- procedures were taken away, or ends by it
 abbrev pub after_caught : BodyValue → Caught → StepOutcome
-after_caught s (Lands operands levels) = Goes (record s { operands = operands; levels = levels; at_once = None })
+after_caught s (Lands operands levels) =
+    Goes (record (cut_back_to levels s) { operands = operands; at_once = None })
 after_caught s (Falls name command) = Ends (Ps name command)
 
 -- an error of this name, whose command this is

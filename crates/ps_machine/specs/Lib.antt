@@ -3,6 +3,7 @@ pub mod Setup
 pub mod State
 pub mod Opening
 pub mod Errors
+pub mod Images
 pub mod Steps
 pub mod Reading
 pub mod Memory

@@ -5,7 +5,7 @@ use Rattle.ps_store.specs.declared.obj.Obj.{Obj}
 use Rattle.ps_store.specs.declared.obj.Obj.TheVariants.{Name, Oper as Operator}
 use Rattle.ps_store.specs.declared.key.Key.TheVariants.{Named}
 use Rattle.ps_store.specs.declared.oper.Oper.{Oper}
-use Rattle.ps_store.specs.declared.oper.Oper.TheVariants.{Stack, Data, Flow, Gfx}
+use Rattle.ps_store.specs.declared.oper.Oper.TheVariants.{Stack, Data, Flow, Gfx, Image}
 use Rattle.ps_store.specs.declared.oper.StackOp.TheVariants.{Copy}
 use Rattle.ps_store.specs.Dicts.{find_key}
 use Rattle.ps_data_ops.specs.Rows.{takes_memory as data_takes_memory}
@@ -13,12 +13,13 @@ use Rattle.ps_flow.specs.Rows.{takes_memory as flow_takes_memory}
 use Rattle.ps_gfx_ops.specs.Rows.{takes_memory as gfx_takes_memory}
 use Rattle.ps_machine.specs.State.{BodyValue}
 
--- the operators that may run out of memory: `copy`, and those that the operators' crates name
+-- the operators that may run out of memory: `copy`, those that the operators' crates name, and those on images
 unfoldable pub takes_memory : Oper → Bool
 takes_memory (Stack Copy) = true
 takes_memory (Data op) = data_takes_memory op
 takes_memory (Flow op) = flow_takes_memory op
 takes_memory (Gfx op) = gfx_takes_memory op
+takes_memory (Image op) = true
 takes_memory op = false
 
 -- what a name stands for takes memory where it is an operator that does

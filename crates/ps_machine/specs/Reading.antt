@@ -16,11 +16,12 @@ use Rattle.ps_store.specs.declared.key.Key.TheVariants.{Named}
 use Rattle.ps_store.specs.Store.{StoreValue, element, with_text_of, with_array_of}
 use Rattle.ps_store.specs.Dicts.{find_key}
 use Rattle.ps_flow.specs.Levels.{Upcoming, Next, next_of}
-use Rattle.ps_flow.specs.Levels.Upcoming.{Run, Turn, Passed, Empty}
+use Rattle.ps_flow.specs.Levels.Upcoming.{Run, Turn, Passed, Returned, Empty}
 use Rattle.ps_machine.specs.declared.turn.End.TheVariants.{Done}
 use Rattle.ps_machine.specs.State.{BodyValue}
 use Rattle.ps_machine.specs.Nested.{with_innermost}
 use Rattle.ps_machine.specs.Errors.{StepOutcome, Goes, Ends, failed, pushes, counted}
+use Rattle.ps_machine.specs.Images.{returned}
 use Rattle.ps_machine.specs.Steps.{execute, turned}
 
 -- an object of the text: an element of the procedure that is open, else it is executed
@@ -77,12 +78,13 @@ after_scan PassesLimit s = failed LimitCheck (codes "scan") s
 unfoldable pub read : BodyValue → StepOutcome
 read s = after_scan (scanned s.text.depth s.text.rest) s
 
--- what comes next of the levels: an object and a turn count; the end of a `stopped` doesn't, and pushes false; where no
--- level is open the text is read
+-- what comes next of the levels: an object and a turn count; the end of a `stopped` doesn't, and pushes false, nor does
+-- the end of a guarded procedure, after which its operator goes on; where no level is open the text is read
 unfoldable pub go_on : Upcoming → BodyValue → StepOutcome
 go_on (Run place) s = counted s (λ t. execute (element t.store place 0) t)
 go_on (Turn op items) s = counted s (turned op items)
 go_on Passed s = pushes (codes "stopped") (Truth false) s
+go_on Returned s = returned s.frames s
 go_on Empty s = read s
 
 -- a step by what comes next of the levels, and the levels then

@@ -26,9 +26,11 @@ use Rattle.ps_flow.specs.Rows.{flow_row}
 use Rattle.gfx_state.specs.Graphics.{with_initial, erased, page_of}
 use Rattle.ps_gfx_ops.specs.Scene.{GraphicsScene}
 use Rattle.ps_gfx_ops.specs.Rows.{gfx_row}
+use Rattle.ps_image_ops.specs.Rows.{image_row}
 use Rattle.ps_machine.specs.declared.turn.End.TheVariants.{Done}
-use Rattle.ps_machine.specs.State.{BodyValue}
+use Rattle.ps_machine.specs.State.{BodyValue, cut_back_to}
 use Rattle.ps_machine.specs.Errors.{StepOutcome, Goes, Shows, Ends, failed, pushes, counted}
+use Rattle.ps_machine.specs.Images.{after_image}
 
 -- the state by what an operator on the operands says, or its error, with its name as the command
 abbrev pub after_stack : Outcome OperandsAndStore → List ℕ → BodyValue → StepOutcome
@@ -63,14 +65,12 @@ after_flow (GoesOn course) command s =
     })
 after_flow (Refuses name) command s = failed name command s
 
--- `stop` cuts the levels back to those below the innermost `stopped`, which then gives true
+-- `stop` cuts levels and frames back to those below the innermost `stopped`, which then gives true
 abbrev pub after_stop : Outcome (OperandsAndLevels × StoreValue) → List ℕ → BodyValue → StepOutcome
 after_stop (GoesOn course) command s =
-    pushes (codes "stopped") (Truth true) (record s {
+    pushes (codes "stopped") (Truth true) (record (cut_back_to course.0.levels s) {
       operands = course.0.operands;
       store = course.1;
-      levels =
-          course.0.levels;
     })
 after_stop (Refuses name) command s = failed name command s
 
@@ -83,8 +83,8 @@ operate_flow op s = after_flow (flow_row op s.operands s.levels s.store s.dicts)
 abbrev pub shown : BodyValue → BodyValue
 shown s = record s { graphics = with_initial (erased s.graphics) }
 
--- an operator does its row; `quit` ends the program, and `showpage` shows the page; one on colour spaces, images or
--- fonts, which isn't built and which no program finds, is undefined by its name
+-- an operator does its row; `quit` ends the program, and `showpage` shows the page; one on colour spaces or fonts,
+-- which isn't built and which no program finds, is undefined by its name
 unfoldable pub operate : Oper → BodyValue → StepOutcome
 operate (Stack op) s = after_stack (stack_row op s.operands s.store) (name_of (Stack op)) s
 operate (Data op) s = after_data (data_row op (work_of s)) (name_of (Data op)) s
@@ -93,7 +93,7 @@ operate (Gfx op) s = after_gfx (gfx_row op s.operands s.store s.graphics) (name_
 operate (Page Quit) s = Ends Done
 operate (Page Showpage) s = Shows (page_of s.graphics) (shown s)
 operate (Space op) s = failed Undefined (name_of (Space op)) s
-operate (Image op) s = failed Undefined (name_of (Image op)) s
+operate (Image op) s = after_image (image_row op s.operands s.store s.graphics) (name_of (Image op)) s
 operate (Font op) s = failed Undefined (name_of (Font op)) s
 
 -- a procedure found by a name runs, where fewer than 250 levels are open, else execstackoverflow; the command is that

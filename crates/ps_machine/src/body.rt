@@ -22,6 +22,7 @@ ghost use Rattle.ps_machine.specs.Code.Landing.{IsCaught};
 ghost use Rattle.gfx_state.specs.Graphics.{page_of};
 
 use crate::errors::{catch, command_of, named, timeout};
+use crate::frames::Frames;
 use crate::turn::{End, Turn};
 use crate::unclosed::Unclosed;
 use gfx_state::Gfx;
@@ -49,6 +50,7 @@ pub(crate) struct Body {
     pub(crate) store: Store,
     pub(crate) dicts: Dicts,
     pub(crate) flow: Flow,
+    pub(crate) frames: Frames,
     pub(crate) at_once: Option<Obj>,
     pub(crate) text: Scanner,
     pub(crate) unclosed: Unclosed,
@@ -67,6 +69,7 @@ impl Model for Body {
       store = b.store;
       dicts = b.dicts;
       levels = b.flow;
+      frames = b.frames;
       at_once = b.at_once;
       text = b.text;
       unclosed = b.unclosed;
@@ -134,6 +137,7 @@ impl Body {
                 Ok(self.begin_turn(end, op, pushes))
             }
             NextObj::Passed => Ok(self.pass(end)),
+            NextObj::Returned => self.return_to_operator(end),
             NextObj::Empty => self.read(end),
         }
     }
@@ -303,9 +307,8 @@ impl Body {
                 Ok(Turn::Ended)
             }
             Oper::Page(PageOp::Showpage) => Ok(Turn::Shown),
-            Oper::Space(_) | Oper::Image(_) | Oper::Font(_) => {
-                Ok(self.refuse_op(end, PsName::Undefined, op))
-            }
+            Oper::Image(op) => self.operate_image(end, op),
+            Oper::Space(_) | Oper::Font(_) => Ok(self.refuse_op(end, PsName::Undefined, op)),
         }
     }
 
@@ -420,7 +423,10 @@ impl Body {
             &mut self.store,
             &self.dicts,
         ) {
-            Ok(_) => self.push(end, b"stopped", Obj::Bool(true)),
+            Ok(_) => {
+                self.frames.cut_to(&self.flow);
+                self.push(end, b"stopped", Obj::Bool(true))
+            }
             Err(OpFault::Ps(name)) => self.refuse_op(end, name, Oper::Flow(FlowOp::Stop)),
             Err(OpFault::NoMemory) => unreachable!(),
         }
@@ -429,7 +435,7 @@ impl Body {
     /// An operator refuses its operands.
     #[cold]
     #[inline(never)]
-    fn refuse_op(&mut self, end: &mut End, name: PsName, op: Oper) -> Turn
+    pub(crate) fn refuse_op(&mut self, end: &mut End, name: PsName, op: Oper) -> Turn
         ensures { failed name (name_of op) self.old ≡ step_of result self.new end.new }
     {
         self.fail(end, name, command_of(op))
@@ -475,6 +481,7 @@ impl Body {
         match catch(&mut self.stack, &mut self.flow, name, command) {
             None => {
                 self.at_once = None;
+                self.frames.cut_to(&self.flow);
                 Turn::Went
             }
             Some(reason) => {

@@ -6,6 +6,8 @@
 
 mod body;
 mod errors;
+mod frames;
+mod images;
 mod machine;
 mod opening;
 mod reading;

@@ -6,6 +6,7 @@ ghost use Rattle.ps_machine.specs.State.{opening};
 
 use crate::body::Body;
 use crate::errors::command_of;
+use crate::frames::Frames;
 use crate::setup::Setup;
 use crate::unclosed::Unclosed;
 use gfx_state::Gfx;
@@ -50,6 +51,7 @@ pub(crate) fn opening_of(alloc: Global, program: Vec<u8>, setup: Setup) -> Mem<B
         store,
         dicts,
         flow: Flow::new(alloc),
+        frames: Frames::new(alloc),
         at_once: None,
         text: Scanner::new(program),
         unclosed: Unclosed::new(alloc),

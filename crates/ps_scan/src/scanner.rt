@@ -134,6 +134,16 @@ impl Scanner {
         count
     }
 
+    /// Goes past so many bytes behind the last token, or behind what was taken since: those that `rest`
+    /// has shown and that were read there.
+    pub fn skip(&mut self, n: usize)
+        requires { n ≤ length self.old.rest }
+        ensures { self.new ≡ record { depth = self.old.depth; rest = drop n self.old.rest } }
+    {
+        let (_, text) = self.program.split_at(self.at);
+        self.at += n.min(text.len());
+    }
+
     /// Fills `into` with the bytes that the hexadecimal digits behind the last token write in
     /// pairs, and says how many. Other bytes are skipped. The place is then right behind the last
     /// digit used; it is the program's end, where there are too few, and a last digit with no

@@ -382,7 +382,7 @@ name_of (Space op) = space_name_of op
 name_of (Image op) = image_name_of op
 name_of (Font op) = font_name_of op
 
--- the operators that are built, in the order of their numbers: none on colour spaces, images and fonts yet
+-- the operators that are built, in the order of their numbers: none on colour spaces and fonts yet
 abbrev pub operators_built : List Oper
 operators_built = Stack OnStack.Pop ∷ Stack OnStack.Exch ∷ Stack OnStack.Dup ∷
     Stack OnStack.Clear ∷ Stack OnStack.Count ∷ Stack OnStack.Copy ∷ Stack OnStack.Index ∷
@@ -417,7 +417,8 @@ operators_built = Stack OnStack.Pop ∷ Stack OnStack.Exch ∷ Stack OnStack.Dup
     Gfx OnGfx.Rlineto ∷ Gfx OnGfx.Curveto ∷ Gfx OnGfx.Rcurveto ∷ Gfx OnGfx.Arc ∷ Gfx OnGfx.Arcn ∷
     Gfx OnGfx.Currentpoint ∷ Gfx OnGfx.Fill ∷ Gfx OnGfx.Eofill ∷ Gfx OnGfx.Stroke ∷
     Gfx OnGfx.Clip ∷ Gfx OnGfx.Eoclip ∷ Gfx OnGfx.Rectfill ∷ Gfx OnGfx.Rectstroke ∷
-    Gfx OnGfx.Rectclip ∷ Page OnPage.Showpage ∷ Gfx OnGfx.Erasepage ∷ Gfx OnGfx.Setpagedevice ∷ []
+    Gfx OnGfx.Rectclip ∷ Image OnImage.Image ∷ Image OnImage.Imagemask ∷
+    Image OnImage.Colorimage ∷ Page OnPage.Showpage ∷ Gfx OnGfx.Erasepage ∷ Gfx OnGfx.Setpagedevice ∷ []
 
 -- whether each number is below the next
 abbrev pub is_rising : List ℕ → Bool

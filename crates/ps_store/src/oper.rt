@@ -204,7 +204,7 @@ pub enum Oper {
 }
 
 /// The operators that are built, in the order of their numbers.
-const BUILT: [Oper; 132] = [
+const BUILT: [Oper; 135] = [
     Oper::Stack(StackOp::Pop),
     Oper::Stack(StackOp::Exch),
     Oper::Stack(StackOp::Dup),
@@ -334,6 +334,9 @@ const BUILT: [Oper; 132] = [
     Oper::Gfx(GfxOp::Rectfill),
     Oper::Gfx(GfxOp::Rectstroke),
     Oper::Gfx(GfxOp::Rectclip),
+    Oper::Image(ImageOp::Image),
+    Oper::Image(ImageOp::Imagemask),
+    Oper::Image(ImageOp::Colorimage),
     Oper::Page(PageOp::Showpage),
     Oper::Gfx(GfxOp::Erasepage),
     Oper::Gfx(GfxOp::Setpagedevice),
