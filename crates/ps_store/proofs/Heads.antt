@@ -1,10 +1,10 @@
 -- The first eight bytes of a name.
-use Rattle.std.proofs.Common.{◌≡◌, ◌≢◌, ◌≤◌, ◌<◌, ◌+◌, ◌-◌, ◌++◌, ℕ, min, true, false, List, [], ◌∷◌, length, take}
+use Rattle.std.proofs.Common.{◌≡◌, ◌≤◌, ◌<◌, ◌+◌, ◌-◌, ◌++◌, ℕ, min, true, List, [], ◌∷◌, length, take}
 use Rattle.std.proofs.Common.{drop, replicate, get_or, set, refl, sym, ap, ◌∙◌, ⊎_elim, arith}
 use Rattle.std.specs.Int.{w64, from_le_bytes, to_le_bytes}
 use Rattle.std.specs.Str.{bytes_eq}
 use Rattle.std.specs.Cmp.Lexicographic.{bytes_decides}
-use Rattle.std.proofs.lemmas.Bool.{cases_lt, false_from_ne_true}
+use Rattle.std.proofs.lemmas.Bool.{cases_lt}
 use Rattle.std.proofs.lemmas.Nat.{le_bytes_8}
 use Rattle.std.proofs.lemmas.List.{take-take, take_at, length-append, length-take, take-append-drop, drop-take, drop_at}
 use Rattle.std.proofs.lemmas.List.{drop_all, take-replicate, drop-replicate, take_more_set, take_more, get_or-take}
@@ -25,18 +25,7 @@ same_heads xs ys heads sizes short =
     ∙ (ap (take (length xs)) heads
     ∙ (ap (λ n. take n (head_bytes ys)) sizes ∙ front ys (omega (arith, sizes, short))))
 
--- names with other first bytes are other names
-pub other_head : (xs ys : List ℕ) (h k : ℕ) → h ≡ from_le_bytes w64 (head_bytes xs) →
-    k ≡ from_le_bytes w64 (head_bytes ys) → h ≢ k → false ≡ bytes_eq xs ys
-other_head xs ys h k is other differ = sym (false_from_ne_true (bytes_eq xs ys) (λ e. differ
-    (is ∙ (ap (λ name. from_le_bytes w64 (head_bytes name)) ((bytes_decides xs ys).0 e) ∙ sym other))))
-
--- names of other lengths are other names
-pub other_size : (xs ys : List ℕ) → length xs ≢ length ys → false ≡ bytes_eq xs ys
-other_size xs ys differ = sym (false_from_ne_true (bytes_eq xs ys) (λ e. differ
-    (ap length ((bytes_decides xs ys).0 e))))
-
--- short names with the same first bytes are the same
+-- as their test tells, where the first bytes are kept as numbers
 pub same_short : (xs ys : List ℕ) (h k : ℕ) → to_le_bytes w64 h ≡ head_bytes xs → to_le_bytes w64 k ≡ head_bytes ys →
     h ≡ k → length xs ≡ length ys → length xs ≤ 8 → true ≡ bytes_eq xs ys
 same_short xs ys h k is other same sizes short =

@@ -1,10 +1,10 @@
 -- Entries in a list.
 use Rattle.std.proofs.Common.{◌≡◌, ◌<◌, ◌+◌, ◌++◌, ℕ, zero, suc, Bool, true, false, cond, List, [], ◌∷◌, length, take}
-use Rattle.std.proofs.Common.{drop, get_or, set, Option, Some, None, refl, sym, ap, ◌∙◌, arith, not}
+use Rattle.std.proofs.Common.{get_or, set, Option, Some, None, refl, sym, ap, ◌∙◌, arith, not}
 use Rattle.std.specs.Map.{lookup}
 use Rattle.std.specs.Option.{is_some}
 use Rattle.std.proofs.lemmas.Bool.{false≢true}
-use Rattle.std.proofs.lemmas.List.{at_drop_more, take_more, get_or_default}
+use Rattle.std.proofs.lemmas.List.{take_more, get_or_default}
 use Rattle.std.proofs.lemmas.Option.{none-some}
 use Rattle.indexmap.specs.IndexMap.{insert_entry}
 use Rattle.ps_store.specs.declared.key.Key.{Key}
@@ -12,23 +12,9 @@ use Rattle.ps_store.specs.declared.obj.Obj.{Obj}
 use Rattle.ps_store.specs.Keys.{same_key}
 use Rattle.ps_store.specs.Code.Entering.{IsFirstAt}
 
-pub missed : (b : Bool) (x : Obj) (rest : Option Obj) → cond b (Some x) rest ≡ None → (b ≡ false) × (rest ≡ None)
+missed : (b : Bool) (x : Obj) (rest : Option Obj) → cond b (Some x) rest ≡ None → (b ≡ false) × (rest ≡ None)
 missed true x rest h = absurd (none-some x (sym h))
 missed false x rest h = (refl, h)
-
--- the entry at a place that is passed isn't the one that is looked up
-pub passed : (test : Key → Bool) (es : List (Key × Obj)) (at : ℕ) (d : Key × Obj) (r : Option Obj) → at < length es →
-    test (get_or es at d).0 ≡ false → lookup test (drop at es) ≡ r → lookup test (drop (at + 1) es) ≡ r
-passed test es at d r within miss held =
-    sym (at_drop_more (lookup test) es at d within
-    ∙ ap (λ b. cond b (Some (get_or es at d).1) (lookup test (drop (at + 1) es))) miss) ∙ held
-
--- the entry at a place that passes the test is the one that is looked up
-pub met : (test : Key → Bool) (es : List (Key × Obj)) (at : ℕ) (d : Key × Obj) (r : Option Obj) → at < length es →
-    test (get_or es at d).0 ≡ true → lookup test (drop at es) ≡ r → Some (get_or es at d).1 ≡ r
-met test es at d r within hit held =
-    sym (at_drop_more (lookup test) es at d within
-    ∙ ap (λ b. cond b (Some (get_or es at d).1) (lookup test (drop (at + 1) es))) hit) ∙ held
 
 lookup_push : (test : Key → Bool) (es : List (Key × Obj)) (e : Key × Obj) → lookup test es ≡ None →
     test e.0 ≡ false → lookup test (es ++ e ∷ []) ≡ None

@@ -85,12 +85,8 @@ lookup_other (e ∷ es) q k v other none =
           ∙ lookup_other es q k v other parts.1
     ]
 
--- no entries need no marks
-pub none_marked : (words : List ℕ) → AreMarked words []
-none_marked words name h = refl
-
 -- with a key more, and its mark, names without a mark still have no entry
-pub marked_more : (words : List ℕ) (es : List (Key × Obj)) (k : Key) (v : Obj) → length words ≡ 4 →
+marked_more : (words : List ℕ) (es : List (Key × Obj)) (k : Key) (v : Obj) → length words ≡ 4 →
     AreMarked words es → AreMarked (marked_by words k) (insert_entry same_key es k v)
 marked_more words es (Named n) v size old name h =
     lookup_other es (Named name) (Named n) v
@@ -103,7 +99,7 @@ marked_more words es (Real n) v size old name h = lookup_other es (Named name) (
 marked_more words es (Truth b) v size old name h = lookup_other es (Named name) (Truth b) v refl (old name h)
 
 -- the marks keep their number
-pub size_marked : (words : List ℕ) (k : Key) → length (marked_by words k) ≡ length words
+size_marked : (words : List ℕ) (k : Key) → length (marked_by words k) ≡ length words
 size_marked words (Named n) = length-set words (hash_of n / 64 % 4)
     (bit_or (get_or words (hash_of n / 64 % 4) 0) (1 * 2 ^ (hash_of n % 64) % 2 ^ 64))
 size_marked words (Integer n) = refl
