@@ -6,7 +6,7 @@ use Rattle.std.specs.List.{list_any}
 use Rattle.std.proofs.lemmas.Bool.{and_parts}
 use Rattle.cache_core.specs.CoreState.{CoreStateValue}
 use Rattle.cache_core.specs.Lookup.{phase_of, is_holding, is_free, has_key, may_go}
-use Rattle.cache_core.specs.Steps.{is_free_seat, is_full, entries_after, phases_after, next_after, after}
+use Rattle.cache_core.specs.Steps.{is_free_seat, is_full, entries_after, phases_after, after}
 use Rattle.cache_core.specs.Steps.{asked_when_full, asked_of, asked}
 use Rattle.cache_core.specs.declared.step.Entry.{Entry}
 use Rattle.cache_core.specs.declared.step.Phase.{Phase}
@@ -36,7 +36,7 @@ step_stays : (core : CoreStateValue) (phases : List Phase) (other wanted : ℕ) 
     → asked_of (record core { phases = phases }) other wanted o ≡ asked_of core other wanted o
 step_stays core phases other wanted None same =
     ap (λ (f : Entry → Bool). if is_full core then asked_when_full other wanted (find f core.entries)
-        else Reserve other wanted core.next_res) (λ i e. same e i)
+    else Reserve other wanted core.next_res) (λ i e. same e i)
 step_stays core phases other wanted (Some entry) same = refl
 
 -- where a free seat is given a phase that is free too, each look makes the step that it made
@@ -47,17 +47,17 @@ unfolding asked
 look_stays core seat other wanted new free is =
     let was = (and_parts (nat_lt seat (length core.phases)) (is_free (phase_of core.phases seat)) free).1 in
     step_stays core (set core.phases seat new) other wanted (find (has_key wanted) core.entries)
-        (λ e. ap (λ b. e.ready && not b) (any_stays (is_holding e.res) core.phases seat new
-        (free_holds_none e.res (phase_of core.phases seat) was) (free_holds_none e.res new is)))
+    (λ e. ap (λ b. e.ready && not b) (any_stays (is_holding e.res) core.phases seat new
+    (free_holds_none e.res (phase_of core.phases seat) was) (free_holds_none e.res new is)))
 
 -- so it is for a seat that waits for a key
 pub key_waits : (core : CoreStateValue) (seat key res other wanted : ℕ) → is_free_seat core.phases seat ≡ true
     → asked (after core (WaitKey seat key res)) other wanted ≡ asked core other wanted
-unfolding entries_after phases_after next_after
+unfolding entries_after phases_after
 key_waits core seat key res other wanted free = look_stays core seat other wanted (WaitsKey res) free refl
 
 -- and for one that waits for room
 pub room_waits : (core : CoreStateValue) (seat key other wanted : ℕ) → is_free_seat core.phases seat ≡ true
     → asked (after core (WaitRoom seat key)) other wanted ≡ asked core other wanted
-unfolding entries_after phases_after next_after
+unfolding entries_after phases_after
 room_waits core seat key other wanted free = look_stays core seat other wanted WaitsRoom free refl

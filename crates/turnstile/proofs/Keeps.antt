@@ -162,7 +162,8 @@ module _ {S : Type 0} (listed : S → ℕ → Claim) (seats : ℕ) where
         keeps,
         tt,
         step_pass s r id m.0 (m.0.turns + 1) Won m.0.kind m.0.residency words' s.homes at passes
-            (length-set s.words 0 k) (λ j ne. (kinds j, residencies j)) (kinds m.0.number ∙ f.3.0, residencies m.0.number ∙ f.3.1)
+            (length-set s.words 0 k) (λ j ne. (kinds j, residencies j))
+            (kinds m.0.number ∙ f.3.0, residencies m.0.number ∙ f.3.1)
             (here, r.free hit) (λ j ne e. omega arith)
             (λ z e. let t = r.home z e in (
               t.0,

@@ -79,11 +79,11 @@ fn visits_side_by_side<R: Threads + Wait + Sync>(
         rt,
         || -> Pass<Room>
             requires { IsReady lock.now first.number first × (first.number < 4) }
-            ensures { IsReady lock.now first.number result }
+            ensures { IsReady lock.entry.now first.number result }
         { visit(rt, lock, first, times) },
         || -> Pass<Room>
             requires { IsReady lock.now second.number second × (second.number < 4) }
-            ensures { IsReady lock.now second.number result }
+            ensures { IsReady lock.entry.now second.number result }
         { visit(rt, lock, second, times) },
     )
 }

@@ -18,8 +18,11 @@ use std::sync::Wait;
 
 // The words that waking rests on, beside word 0, which says who has the turn.
 const GIVEN_UP: usize = 1;
+
 const CHANGES: usize = 2;
+
 const WAITING: usize = 3;
+
 const RESTING: usize = 4;
 
 fn kind(claim: Claim) -> u64
