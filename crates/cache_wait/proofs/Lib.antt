@@ -1,3 +1,4 @@
 mod Claiming
 mod Counting
 mod Places
+mod Waiting

@@ -7,10 +7,12 @@
 #![tactic(auto)]
 
 mod cache;
+mod laws;
 mod locked;
 mod name;
 mod seats;
 
 pub use cache::SharedCache;
+pub use laws::waits_change_no_look;
 pub use name::CacheName;
 pub use seats::{Seat, Seats};

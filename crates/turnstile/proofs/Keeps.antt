@@ -1,5 +1,5 @@
 -- Each step of a pass keeps the turn rule, and so does the opening of a lock.
-use Rattle.std.proofs.Common.{◌≡◌, ◌≢◌, ◌⊎◌, ℕ, zero, suc, ◌+◌, ◌*◌, ◌%◌, ◌^◌, ◌<◌, eqb, List, [], ◌∷◌, length}
+use Rattle.std.proofs.Common.{◌≡◌, ◌≢◌, ◌⊎◌, ℕ, zero, suc, ◌+◌, ◌*◌, ◌<◌, eqb, List, [], ◌∷◌, length}
 use Rattle.std.proofs.Common.{replicate, get_or, set, sym, refl, ap, ◌∙◌, subst, ⊎_elim, inl, inr, arith, Option, Some}
 use Rattle.std.proofs.Common.{length-set, get_or-set_other, get_or-set_same}
 use mathlib.Core.Logic.{dite}
@@ -20,9 +20,10 @@ use Rattle.turnstile.specs.declared.view.Role.TheVariants.{Chairing, Passing, Sp
 use Rattle.turnstile.specs.declared.view.Stage.{Stage}
 use Rattle.turnstile.specs.declared.view.Stage.TheVariants.{Away, Won, Took}
 use Rattle.turnstile.specs.TurnRule.{kind_of, residency_of, Writes, WritesClaim, IsMember, Homes, HasIt, Lists}
+use Rattle.turnstile.specs.TurnRule.{IsCount}
 use Rattle.turnstile.specs.TurnRule.{FitsStage, FitsAs, TurnRule}
 use Rattle.turnstile.specs.Steps.{Holder, first_view, won, tried, took_out, set_kind, set_residency, gave_up}
-use Rattle.turnstile.specs.Steps.{counted_up}
+use Rattle.turnstile.specs.Steps.{counted}
 
 -- what is written at a place is there
 pub set_there : {A : Type 0} (l : List A) (i : ℕ) (a b : A) → get_elem? l i ≡ some a → get_elem? (set l i b) i ≡ some b
@@ -62,8 +63,8 @@ module _ {S : Type 0} (listed : S → ℕ → Claim) (seats : ℕ) where
 
   -- the stage says the same of words that agree on the turn and on all claims
   stage_stays : (words words' : List ℕ) (homes : Homes S) (n : ℕ) (st : Stage S) → get_or words' 0 0 ≡ get_or words 0 0
-      → ((m : ℕ) → (get_or words' (2 * m + 2) 0 ≡ get_or words (2 * m + 2) 0) × (get_or words'
-      (2 * m + 3) 0 ≡ get_or words (2 * m + 3) 0))
+      → ((m : ℕ) → (get_or words' (2 * m + 5) 0 ≡ get_or words (2 * m + 5) 0) × (get_or words'
+      (2 * m + 6) 0 ≡ get_or words (2 * m + 6) 0))
       → FitsStage listed seats words homes n st → FitsStage listed seats words' homes n st
   stage_stays words words' homes n Away first same h = tt
   stage_stays words words' homes n Won first same h = (first ∙ h.0, h.1)
@@ -98,8 +99,8 @@ module _ {S : Type 0} (listed : S → ℕ → Claim) (seats : ℕ) where
   step_pass : (s : St) (r : Rule s) (id : ℕ) (v : View S) (turns : ℕ) (stage : Stage S) (kind res : ℕ)
       (words' : List ℕ) (homes' : Homes S)
       → get_elem? s.views id ≡ some v → v.role ≡ Passing → length words' ≡ length s.words
-      → ((m : ℕ) → m ≢ v.number → (get_or words' (2 * m + 2) 0 ≡ get_or s.words (2 * m + 2) 0) × (get_or words'
-      (2 * m + 3) 0 ≡ get_or s.words (2 * m + 3) 0))
+      → ((m : ℕ) → m ≢ v.number → (get_or words' (2 * m + 5) 0 ≡ get_or s.words (2 * m + 5) 0) × (get_or words'
+      (2 * m + 6) 0 ≡ get_or s.words (2 * m + 6) 0))
       → Writes words' v.number kind res → FitsStage listed seats words' homes' v.number stage
       → ((m : ℕ) → m ≢ v.number → get_or s.words 0 0 ≢ m + 1)
       → ((z : Option S) → get_elem? homes' 0 ≡ some (some z) → (y : S) × (z ≡ Some y) × Lists listed seats words' y)
@@ -153,22 +154,23 @@ module _ {S : Type 0} (listed : S → ℕ → Claim) (seats : ℕ) where
       (stepped s 0 x id m.1 w a) × tried (step n 0 0 k none) m (get_or s.words 0 0) (w, carried_after m.1 a))
       (λ hit. let f = fits s r id m.0 at passes in let words' = set s.words 0 k in let long = r.wide in
       let here : get_or words' 0 0 ≡ m.0.number + 1 = get_or-set_same s.words 0 k 0 (omega arith) ∙ is in
-      let two : (j : ℕ) → get_or words' (2 * j + 2) 0 ≡ get_or s.words (2 * j + 2) 0 =
-      λ j. get_or-set_other s.words 0 (2 * j + 2) k 0 (λ e. omega arith) in
-      let three : (j : ℕ) → get_or words' (2 * j + 3) 0 ≡ get_or s.words (2 * j + 3) 0 =
-      λ j. get_or-set_other s.words 0 (2 * j + 3) k 0 (λ e. omega arith) in (
+      let kinds : (j : ℕ) → get_or words' (2 * j + 5) 0 ≡ get_or s.words (2 * j + 5) 0 =
+      λ j. get_or-set_other s.words 0 (2 * j + 5) k 0 (λ e. omega arith) in
+      let residencies : (j : ℕ) → get_or words' (2 * j + 6) 0 ≡ get_or s.words (2 * j + 6) 0 =
+      λ j. get_or-set_other s.words 0 (2 * j + 6) k 0 (λ e. omega arith) in (
         won m.0,
         keeps,
         tt,
         step_pass s r id m.0 (m.0.turns + 1) Won m.0.kind m.0.residency words' s.homes at passes
-            (length-set s.words 0 k) (λ j ne. (two j, three j)) (two m.0.number ∙ f.3.0, three m.0.number ∙ f.3.1)
+            (length-set s.words 0 k) (λ j ne. (kinds j, residencies j))
+            (kinds m.0.number ∙ f.3.0, residencies m.0.number ∙ f.3.1)
             (here, r.free hit) (λ j ne e. omega arith)
             (λ z e. let t = r.home z e in (
               t.0,
               t.1,
               λ j l. (
-                two j ∙ (t.2 j l).0,
-                three j ∙ (t.2 j l).1,
+                kinds j ∙ (t.2 j l).0,
+                residencies j ∙ (t.2 j l).1,
               ),
             )) (λ e. absurd (omega arith)) (inr (tt, here)),
         ((λ _. refl), λ miss. absurd (miss hit)),
@@ -201,7 +203,7 @@ module _ {S : Type 0} (listed : S → ℕ → Claim) (seats : ℕ) where
   has_took st y e = subst HasIt (sym e) tt
 
   -- set: the first claim word of the pass
-  pub sets_kind : (n id : ℕ) (m : Holder S) (y : S) (i x : ℕ) → i ≡ 2 * m.0.number + 2 → m.0.role ≡ Passing
+  pub sets_kind : (n id : ℕ) (m : Holder S) (y : S) (i x : ℕ) → i ≡ 2 * m.0.number + 5 → m.0.role ≡ Passing
       → m.0.stage ≡ Took y → Allows Rule n id m i (λ _. x) (set_kind (step n i x 0 none) m)
   sets_kind n id m y i x is passes has s r wide at _ =
       let f = fits s r id m.0 at passes in let h : FitsStage listed seats s.words s.homes m.0.number (Took y) =
@@ -210,16 +212,16 @@ module _ {S : Type 0} (listed : S → ℕ → Claim) (seats : ℕ) where
       let at_ : (j : ℕ) → j ≢ i → get_or words' j 0 ≡ get_or s.words j 0 =
       λ j ne. get_or-set_other s.words i j x 0 (λ e. ne (omega arith)) in
       let word : get_or words' 0 0 ≡ m.0.number + 1 = at_ 0 (λ e. omega arith) ∙ h.0 in let was = h.0 in
-      let others : (j : ℕ) → j ≢ m.0.number → (get_or words' (2 * j + 2) 0 ≡ get_or s.words (2 * j + 2) 0) ×
-      (get_or words' (2 * j + 3) 0 ≡ get_or s.words (2 * j + 3) 0) =
-      λ j ne. (at_ (2 * j + 2) (λ e. ne (omega arith)), at_ (2 * j + 3) (λ e. omega arith)) in (
+      let others : (j : ℕ) → j ≢ m.0.number → (get_or words' (2 * j + 5) 0 ≡ get_or s.words (2 * j + 5) 0) ×
+      (get_or words' (2 * j + 6) 0 ≡ get_or s.words (2 * j + 6) 0) =
+      λ j ne. (at_ (2 * j + 5) (λ e. ne (omega arith)), at_ (2 * j + 6) (λ e. omega arith)) in (
         record m.0 { kind = x },
         keeps,
         tt,
         step_pass s r id m.0 m.0.turns m.0.stage x m.0.residency words' s.homes at passes
             (length-set s.words i x) others (
               ap (λ j. get_or words' j 0) (sym is) ∙ get_or-set_same s.words i x 0 (omega arith),
-              at_ (2 * m.0.number + 3) (λ e. omega arith) ∙ f.3.1,
+              at_ (2 * m.0.number + 6) (λ e. omega arith) ∙ f.3.1,
             )
             (subst (FitsStage listed seats words' s.homes m.0.number) (sym has) (
               word,
@@ -232,7 +234,7 @@ module _ {S : Type 0} (listed : S → ℕ → Claim) (seats : ℕ) where
       )
 
   -- set: the second claim word of the pass
-  pub sets_residency : (n id : ℕ) (m : Holder S) (y : S) (i x : ℕ) → i ≡ 2 * m.0.number + 3 → m.0.role ≡ Passing
+  pub sets_residency : (n id : ℕ) (m : Holder S) (y : S) (i x : ℕ) → i ≡ 2 * m.0.number + 6 → m.0.role ≡ Passing
       → m.0.stage ≡ Took y → Allows Rule n id m i (λ _. x) (set_residency (step n i x 0 none) m)
   sets_residency n id m y i x is passes has s r wide at _ =
       let f = fits s r id m.0 at passes in let h : FitsStage listed seats s.words s.homes m.0.number (Took y) =
@@ -241,16 +243,16 @@ module _ {S : Type 0} (listed : S → ℕ → Claim) (seats : ℕ) where
       let at_ : (j : ℕ) → j ≢ i → get_or words' j 0 ≡ get_or s.words j 0 =
       λ j ne. get_or-set_other s.words i j x 0 (λ e. ne (omega arith)) in
       let word : get_or words' 0 0 ≡ m.0.number + 1 = at_ 0 (λ e. omega arith) ∙ h.0 in let was = h.0 in
-      let others : (j : ℕ) → j ≢ m.0.number → (get_or words' (2 * j + 2) 0 ≡ get_or s.words (2 * j + 2) 0) ×
-      (get_or words' (2 * j + 3) 0 ≡ get_or s.words (2 * j + 3) 0) = λ j ne. (
-        at_ (2 * j + 2) (λ e. omega arith),
-        at_ (2 * j + 3) (λ e. ne (omega arith)),
+      let others : (j : ℕ) → j ≢ m.0.number → (get_or words' (2 * j + 5) 0 ≡ get_or s.words (2 * j + 5) 0) ×
+      (get_or words' (2 * j + 6) 0 ≡ get_or s.words (2 * j + 6) 0) = λ j ne. (
+        at_ (2 * j + 5) (λ e. omega arith),
+        at_ (2 * j + 6) (λ e. ne (omega arith)),
       ) in (
         record m.0 { residency = x },
         keeps,
         tt,
         step_pass s r id m.0 m.0.turns m.0.stage m.0.kind x words' s.homes at passes (length-set s.words i x) others (
-          at_ (2 * m.0.number + 2) (λ e. omega arith) ∙ f.3.0,
+          at_ (2 * m.0.number + 5) (λ e. omega arith) ∙ f.3.0,
           ap (λ j. get_or words' j 0) (sym is) ∙ get_or-set_same s.words i x 0 (omega arith),
         )
             (subst (FitsStage listed seats words' s.homes m.0.number) (sym has) (
@@ -279,25 +281,25 @@ module _ {S : Type 0} (listed : S → ℕ → Claim) (seats : ℕ) where
       subst (FitsStage listed seats s.words s.homes m.0.number) has f.4 in
       let words' = set s.words 0 0 in let homes' = set s.homes 0 (some (Some y')) in let long = r.wide in
       let was = h.0 in
-      let two : (j : ℕ) → get_or words' (2 * j + 2) 0 ≡ get_or s.words (2 * j + 2) 0 =
-      λ j. get_or-set_other s.words 0 (2 * j + 2) 0 0 (λ e. omega arith) in
-      let three : (j : ℕ) → get_or words' (2 * j + 3) 0 ≡ get_or s.words (2 * j + 3) 0 =
-      λ j. get_or-set_other s.words 0 (2 * j + 3) 0 0 (λ e. omega arith) in
+      let kinds : (j : ℕ) → get_or words' (2 * j + 5) 0 ≡ get_or s.words (2 * j + 5) 0 =
+      λ j. get_or-set_other s.words 0 (2 * j + 5) 0 0 (λ e. omega arith) in
+      let residencies : (j : ℕ) → get_or words' (2 * j + 6) 0 ≡ get_or s.words (2 * j + 6) 0 =
+      λ j. get_or-set_other s.words 0 (2 * j + 6) 0 0 (λ e. omega arith) in
       let here : get_elem? homes' 0 ≡ some (some (Some y')) = set_there s.homes 0 none (some (Some y')) h.1 in
       let lists : Lists listed seats words' y' = λ j l. dite (ℕ_discrete j m.0.number)
       (λ e. subst (λ z. WritesClaim words' z (listed y' z)) (sym e) (
-        two m.0.number ∙ (f.3.0 ∙ kind),
-        three m.0.number ∙ (f.3.1 ∙ res),
+        kinds m.0.number ∙ (f.3.0 ∙ kind),
+        residencies m.0.number ∙ (f.3.1 ∙ res),
       ))
       (λ ne. let t = h.2 j l ne in (
-        two j ∙ (t.0 ∙ ap kind_of (sym (others j l ne))),
-        three j ∙ (t.1 ∙ ap residency_of (sym (others j l ne))),
+        kinds j ∙ (t.0 ∙ ap kind_of (sym (others j l ne))),
+        residencies j ∙ (t.1 ∙ ap residency_of (sym (others j l ne))),
       )) in (
         record m.0 { stage = Away },
         gives,
         tt,
         step_pass s r id m.0 m.0.turns Away m.0.kind m.0.residency words' homes' at passes (length-set s.words 0 0)
-            (λ j ne. (two j, three j)) (two m.0.number ∙ f.3.0, three m.0.number ∙ f.3.1)
+            (λ j ne. (kinds j, residencies j)) (kinds m.0.number ∙ f.3.0, residencies m.0.number ∙ f.3.1)
             tt (λ j ne e. ne (omega arith)) (λ z e. (
               y',
               some-injective z (Some y') (some-injective (some z) (some (Some y')) (sym e ∙ here)),
@@ -306,16 +308,18 @@ module _ {S : Type 0} (listed : S → ℕ → Claim) (seats : ℕ) where
         refl,
       ))
 
-  -- count up: no other word changes
-  pub counts_up : (n id : ℕ) (m : Holder S) (x : ℕ)
-      → Allows Rule n id m 1 (λ k. (k + x) % 2 ^ 64) (counted_up (step n 1 x 0 none) m)
-  counts_up n id m x s r wide at _ = let k : ℕ = (get_or s.words 1 0 + x) % 2 ^ 64 in let words' = set s.words 1 k in
-      let zero_ : get_or words' 0 0 ≡ get_or s.words 0 0 = get_or-set_other s.words 1 0 k 0 (λ e. omega arith) in
-      let same : (j : ℕ) → (get_or words' (2 * j + 2) 0 ≡ get_or s.words (2 * j + 2) 0) × (get_or words'
-      (2 * j + 3) 0 ≡ get_or s.words (2 * j + 3) 0) =
+  -- count: no other word changes
+  pub counts : (n id : ℕ) (m : Holder S) (i x : ℕ) (f : ℕ → ℕ) → IsCount i
+      → Allows Rule n id m i f (counted (step n i x 0 none) m)
+  counts n id m i x f is s r wide at _ =
+      let low = is.0 in let high = is.1 in
+      let k : ℕ = f (get_or s.words i 0) in let words' = set s.words i k in
+      let zero_ : get_or words' 0 0 ≡ get_or s.words 0 0 = get_or-set_other s.words i 0 k 0 (λ e. omega arith) in
+      let same : (j : ℕ) → (get_or words' (2 * j + 5) 0 ≡ get_or s.words (2 * j + 5) 0) × (get_or words'
+      (2 * j + 6) 0 ≡ get_or s.words (2 * j + 6) 0) =
       λ j. (
-        get_or-set_other s.words 1 (2 * j + 2) k 0 (λ e. omega arith),
-        get_or-set_other s.words 1 (2 * j + 3) k 0 (λ e. omega arith),
+        get_or-set_other s.words i (2 * j + 5) k 0 (λ e. omega arith),
+        get_or-set_other s.words i (2 * j + 6) k 0 (λ e. omega arith),
       ) in (
         m.0,
         keeps,
@@ -324,7 +328,7 @@ module _ {S : Type 0} (listed : S → ℕ → Claim) (seats : ℕ) where
           chair = r.chair;
           out = r.out;
           owner = r.owner;
-          wide = length-set s.words 1 k ∙ r.wide;
+          wide = length-set s.words i k ∙ r.wide;
           each_seat = λ j u e. seat_stays r.chair r.out r.owner s.words words' s.homes s.homes j u u.role
               (λ owns writes ok. (
                 ((same u.number).0 ∙ writes.0, (same u.number).1 ∙ writes.1),
@@ -347,22 +351,22 @@ module _ {S : Type 0} (listed : S → ℕ → Claim) (seats : ℕ) where
       )
 
   -- a new lock: all words are 0, and the value at home lists no claim
-  pub opens : (words : List ℕ) (y : S) → words ≡ replicate (2 * seats + 2) 0 → ((j : ℕ) → j < seats
+  pub opens : (words : List ℕ) (y : S) → words ≡ replicate (2 * seats + 5) 0 → ((j : ℕ) → j < seats
       → listed y j ≡ Free) → Rule (opening words (Some y ∷ []) first_view)
   opens words y is free = let zeros : (j : ℕ)
-      → get_or words j 0 ≡ 0 = λ j. ap (λ ws. get_or ws j 0) is ∙ zero_there (2 * seats + 2) j in record {
+      → get_or words j 0 ≡ 0 = λ j. ap (λ ws. get_or ws j 0) is ∙ zero_there (2 * seats + 5) j in record {
         chair = 0;
         out = [];
         owner = λ _. 0;
-        wide = ap length is ∙ length-replicate (2 * seats + 2) 0;
+        wide = ap length is ∙ length-replicate (2 * seats + 5) 0;
         each_seat = λ j v e. first_seat j v words (some (Some y) ∷ []) e;
-        idle = λ n h. inr (zeros (2 * n + 2), zeros (2 * n + 3));
+        idle = λ n h. inr (zeros (2 * n + 5), zeros (2 * n + 6));
         home = λ z e. (
           y,
           sym (some-injective (Some y) z (some-injective (some (Some y)) (some z) e)),
           λ j l. (
-            zeros (2 * j + 2) ∙ ap kind_of (sym (free j l)),
-            zeros (2 * j + 3)
+            zeros (2 * j + 5) ∙ ap kind_of (sym (free j l)),
+            zeros (2 * j + 6)
                 ∙ ap residency_of (sym (free j l)),
           ),
         );

@@ -108,7 +108,7 @@ module _ {S : Type 0} (listed : S → ℕ → Claim) (seats : ℕ) where
       ∙ there))) ∙ passes))
 
   -- name: only the named number changes, of which the rule says nothing
-  pub names : (n id : ℕ) (m : Holder S) (i k : ℕ) → i ≡ 2 * k + 2 → m.0.role ≡ Chairing
+  pub names : (n id : ℕ) (m : Holder S) (i k : ℕ) → i ≡ 2 * k + 5 → m.0.role ≡ Chairing
       → Allows Rule n id m i (λ x. x) (named (step n i 0 0 none) m)
   names n id m i k is chairs s r wide at _ = let c = chairs_at s r id m.0 at chairs in
       let w : View S = record m.0 { number = k } in
@@ -146,7 +146,7 @@ module _ {S : Type 0} (listed : S → ℕ → Claim) (seats : ℕ) where
         (λ j e. λ h. (record m.0 { number = same k j (sym is ∙ e) h }, m.1)),
       )
     where
-      same : (a b : ℕ) → 2 * a + 2 ≡ 2 * b + 2 → a ≡ b
+      same : (a b : ℕ) → 2 * a + 5 ≡ 2 * b + 5 → a ≡ b
       same a b e = omega arith
 
   -- split: a number that wasn't out has one owner now

@@ -1,7 +1,6 @@
 -- The kinds of atomic step of the lock, and what each tells its caller. Own rule: each keeps the whole turn rule;
--- beside
--- it stands the line that it could break. To look at word 1 is a plain load that tells nothing; parking changes no
--- word.
+-- beside it stands the line that it could break. To look at a count is a plain load that tells nothing; parking
+-- changes no word.
 --
 --   name      the chair loads the first claim word of a number    each_seat: what the chair knows to be out stays
 --   split     load word 0; the named number's pass is split off   each_seat: the number was nobody's, its words are 0
@@ -12,7 +11,7 @@
 --   set       exchange an own claim word, with the value out      each_seat: no other number's words change
 --   give up   the value is moved in; exchange word 0 for 0,       home: the value lists what the words write
 --             which returns the slot
---   count up  add 1 to word 1                                     none
+--   count     add to one of the words 1 to 4, or subtract         none
 use Rattle.std.specs.Prelude.{◌≡◌, ◌≢◌, ℕ, ◌+◌, ◌*◌, ◌==◌, List, [], ◌∷◌, Option, Some, None, cond}
 use Rattle.atomic_table.specs.Table.{Me, Step}
 use Rattle.turnstile.specs.declared.claim.Claim.{Claim}
@@ -48,7 +47,7 @@ module _ {S : Type 0} where
 
   -- name: the chair knows which number's word it loaded
   abbrev pub named : Told S
-  named st m r m' = (n : ℕ) → st.word ≡ 2 * n + 2 → m' ≡ (record m.0 { number = n }, m.1)
+  named st m r m' = (n : ℕ) → st.word ≡ 2 * n + 5 → m' ≡ (record m.0 { number = n }, m.1)
 
   -- split: the chair, with the named number out
   abbrev pub with_named : View S → View S
@@ -92,6 +91,6 @@ module _ {S : Type 0} where
   abbrev pub gave_up : Told S
   gave_up st m r m' = m' ≡ (record m.0 { stage = Away }, [])
 
-  -- count up: the pass knows what it knew
-  abbrev pub counted_up : Told S
-  counted_up st m r m' = m' ≡ m
+  -- count: the pass knows what it knew
+  abbrev pub counted : Told S
+  counted st m r m' = m' ≡ m

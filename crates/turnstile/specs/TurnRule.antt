@@ -1,7 +1,18 @@
 -- The turn rule: what holds of a lock's words, of its value and of what each seat of its table knows, between any two
--- atomic steps. Own rule. Word 0 is 0, or one more than the number that has the turn. Word 1 counts the turns given up;
--- only waking rests on it. Words 2 n + 2 and 2 n + 3 are the claim words of the number n: 0, 1 or 2 for Free, Builds
--- or Holds, and the residency, which is 0 for Free.
+-- atomic steps. Own rule. Word 0 is 0, or one more than the number that has the turn. Words 2 n + 5 and 2 n + 6 are the
+-- claim words of the number n: 0, 1 or 2 for Free, Builds or Holds, and the residency, which is 0 for Free. The words
+-- between are counts; only waking rests on them, and the rule says nothing of them:
+--
+--   word 1   turns given up, also by who rests; who waits for the turn sleeps on it
+--   word 2   turns left with a changed value, each counted in that turn; who rests sleeps on it
+--   word 3   passes that wait for the turn
+--   word 4   passes that rest
+--
+-- No wake is lost. Who waits counts itself in word 3, reads word 1 and then tries for the turn. Where the try fails,
+-- another has the turn, and gives it up after that: then it adds to word 1, finds word 3 above 0, and wakes one that
+-- sleeps on word 1; each that is woken tries again. So who isn't asleep yet finds word 1 changed and doesn't fall
+-- asleep. Who rests reads word 2 and counts itself in word 4 in its own turn. A change after that is made in a later
+-- turn, whose pass adds to word 2, finds word 4 above 0, and wakes all that sleep on word 2.
 use Rattle.std.specs.Prelude.{◌≡◌, ◌≢◌, ◌⊎◌, ℕ, ◌+◌, ◌*◌, ◌<◌, List, [], ◌∷◌, length, slice_index, Option, Some}
 use mathlib.Core.Option.{none, some}
 use mathlib.Core.Option as maybe
@@ -29,11 +40,15 @@ residency_of (Holds r) = r
 
 -- the claim words of the number n are these two
 abbrev pub Writes : List ℕ → ℕ → ℕ → ℕ → Type 0
-Writes words n kind residency = (slice_index words (2 * n + 2) ≡ kind) × (slice_index words (2 * n + 3) ≡ residency)
+Writes words n kind residency = (slice_index words (2 * n + 5) ≡ kind) × (slice_index words (2 * n + 6) ≡ residency)
 
 -- the claim words of the number n write this claim
 abbrev pub WritesClaim : List ℕ → ℕ → Claim → Type 0
 WritesClaim words n c = Writes words n (kind_of c) (residency_of c)
+
+-- a word is one of the counts
+abbrev pub IsCount : ℕ → Type 0
+IsCount word = (0 < word) × (word < 5)
 
 -- a number is in a list
 abbrev pub IsMember : ℕ → List ℕ → Type 0
@@ -89,8 +104,8 @@ module _ {S : Type 0} (listed : S → ℕ → Claim) (seats : ℕ) where
     pub chair : ℕ
     pub out : List ℕ
     pub owner : ℕ → ℕ
-    -- two words, and two for each seat
-    pub wide : length s.words ≡ 2 * seats + 2
+    -- word 0, four counts, and two words for each seat
+    pub wide : length s.words ≡ 2 * seats + 5
     -- what each seat of the table knows is so
     pub each_seat : (j : ℕ) (v : View S) → get_elem? s.views j ≡ some v
         → FitsAs chair out owner s.words s.homes j v v.role

@@ -17,7 +17,7 @@ mod calls;
 pub struct Turnstile<S: Listing> {
     table: Table<Option<S>, View<S>, u32, Turns, Global>,
     seats: u32,
-    ghost sized: { (table.shared.table_id.words ≡ 2 * seats + 2) × (table.shared.table_id.slots ≡ 1) ×
+    ghost sized: { (table.shared.table_id.words ≡ 2 * seats + 5) × (table.shared.table_id.slots ≡ 1) ×
         (table.shared.key ≡ seats) },
 }
 
@@ -37,7 +37,7 @@ pub struct Pass<S> {
     claim: Claim,
     ghost passes: { (seat.me.0.role ≡ Passing) × (seat.me.0.number ≡ number) },
     ghost claims: { (seat.me.0.kind ≡ kind_of claim) × (seat.me.0.residency ≡ residency_of claim) },
-    ghost inside: { 2 * number + 3 < seat.table_id.words },
+    ghost inside: { 2 * number + 6 < seat.table_id.words },
     ghost carries: { seat.me.1 ≡ in_hand seat.me.0.stage },
 }
 

@@ -1,7 +1,7 @@
 //! The rule of the lock's table, and the kinds of step that the lock makes. `specs/Steps.antt` says
 //! what each tells its caller, and which line of the rule it has to keep.
 ghost use Rattle.turnstile.specs.TurnRule.{TurnRule};
-ghost use Rattle.turnstile.specs.Steps.{first_view, tried, took_out, set_kind, set_residency, gave_up, counted_up};
+ghost use Rattle.turnstile.specs.Steps.{first_view, tried, took_out, set_kind, set_residency, gave_up, counted};
 ghost use Rattle.turnstile.specs.Steps.{named, with_named, new_pass, with_back, spent_view};
 
 use crate::claim::Listing;
@@ -52,11 +52,11 @@ impl<S> Play<Option<S>, View<S>> for GiveUp {
     ghost then = { gave_up };
 }
 
-/// Counts a turn that was given up.
-pub struct CountUp;
+/// Changes a count that waking rests on.
+pub struct Count;
 
-impl<S> Play<Option<S>, View<S>> for CountUp {
-    ghost then = { counted_up };
+impl<S> Play<Option<S>, View<S>> for Count {
+    ghost then = { counted };
 }
 
 /// The chair names the number of the next pass.

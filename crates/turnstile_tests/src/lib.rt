@@ -1,4 +1,4 @@
-//! Tests of the turn lock over a room that at most one of two seats holds.
+//! Tests of the turn lock over a room that at most one of four seats holds.
 #![tactic(auto)]
 
 mod room;

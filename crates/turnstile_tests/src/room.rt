@@ -1,4 +1,4 @@
-//! A room that at most one of two seats holds, as an entry of a cache is held.
+//! A room that at most one of four seats holds, as an entry of a cache is held.
 ghost use Rattle.std.specs.Prelude.{◌≡◌, ◌≢◌, ℕ, ◌<◌, slice_index_or};
 ghost use Rattle.turnstile.specs.declared.claim.Claim.TheVariants.{Free, Holds};
 ghost use Rattle.turnstile.specs.Tokens.{id_of, lock_of};
@@ -8,10 +8,10 @@ use std::sync::Wait;
 use std::thread;
 use turnstile::{Claim, Listing, Pass, Turnstile};
 
-/// A room, the claims of its two seats, and the number of visits so far.
+/// A room, the claims of its four seats, and the number of visits so far.
 #[derive(Drop)]
 pub struct Room {
-    claims: [Claim; 2],
+    claims: [Claim; 4],
     visits: u64,
 }
 
@@ -23,17 +23,17 @@ impl Listing for Room {
 
     fn claim(&self, seat: u32) -> Claim {
         let at = seat as usize;
-        if at < 2 { self.claims[at] } else { Claim::Free }
+        if at < 4 { self.claims[at] } else { Claim::Free }
     }
 }
 
 impl Room {
     /// A room that nobody holds.
     pub fn new() -> Room
-        ensures { (n : ℕ) → n < 2 → slice_index_or result.claims n Free ≡ Free }
+        ensures { (n : ℕ) → n < 4 → slice_index_or result.claims n Free ≡ Free }
     {
         Room {
-            claims: [Claim::Free; 2],
+            claims: [Claim::Free; 4],
             visits: 0,
         }
     }
@@ -48,7 +48,7 @@ impl Room {
     }
 
     fn set(&mut self, seat: u32, claim: Claim)
-        requires { seat < 2 }
+        requires { seat < 4 }
         ensures own { slice_index_or self.new.claims seat Free ≡ claim }
         ensures others { (m : ℕ) → m ≢ seat → slice_index_or self.new.claims m Free
             ≡ slice_index_or self.old.claims m Free }
@@ -64,7 +64,7 @@ pub fn claim_in_a_turn<R: Wait>(
     pass: &mut Pass<Room>,
     claim: Claim,
 ) -> (Claim, Claim)
-    requires { IsIdle lock.now pass.old.number pass.old × (pass.old.number < 2) }
+    requires { IsIdle lock.now pass.old.number pass.old × (pass.old.number < 4) }
     ensures { IsIdle lock.now pass.old.number pass.new × (pass.new.claim ≡ claim) }
 {
     let mut room = lock.take_turn(rt, pass);
@@ -76,7 +76,7 @@ pub fn claim_in_a_turn<R: Wait>(
 
 /// Rests until nobody holds the room, and holds it under the number of the visit.
 fn enter<R: Wait>(rt: &R, lock: &Turnstile<Room>, pass: &mut Pass<Room>) -> u64
-    requires { IsReady lock.now pass.old.number pass.old × (pass.old.number < 2) }
+    requires { IsReady lock.now pass.old.number pass.old × (pass.old.number < 4) }
     ensures { IsIdle lock.now pass.old.number pass.new × (pass.new.claim ≡ Holds result) }
 {
     let mut room = lock.take_turn(rt, pass);
@@ -95,7 +95,7 @@ fn enter<R: Wait>(rt: &R, lock: &Turnstile<Room>, pass: &mut Pass<Room>) -> u64
 
 /// Leaves the room. The seat is listed as its holder, which is proved.
 fn leave<R: Wait>(rt: &R, lock: &Turnstile<Room>, pass: &mut Pass<Room>, visit: u64)
-    requires { IsIdle lock.now pass.old.number pass.old × (pass.old.claim ≡ Holds visit) × (pass.old.number < 2) }
+    requires { IsIdle lock.now pass.old.number pass.old × (pass.old.claim ≡ Holds visit) × (pass.old.number < 4) }
     ensures { IsReady lock.now pass.old.number pass.new }
 {
     let mut room = lock.take_turn(rt, pass);
@@ -107,7 +107,7 @@ fn leave<R: Wait>(rt: &R, lock: &Turnstile<Room>, pass: &mut Pass<Room>, visit: 
 
 /// So many visits, each longer than its turn.
 pub fn visit<R: Wait>(rt: &R, lock: &Turnstile<Room>, pass: Pass<Room>, times: u64) -> Pass<Room>
-    requires { IsReady lock.now pass.number pass × (pass.number < 2) }
+    requires { IsReady lock.now pass.number pass × (pass.number < 4) }
     ensures { IsReady lock.now pass.number result }
 {
     let mut pass = pass;

@@ -1,19 +1,29 @@
 //! The calls of the lock.
-ghost use Rattle.std.specs.Prelude.{◌≡◌, ◌≢◌, ℕ, ◌+◌, ◌<◌, [], ◌∷◌, IfOk, IfErr};
+ghost use Rattle.std.specs.Prelude.{◌≡◌, ◌≢◌, ℕ, ◌+◌, ◌<◌, [], ◌∷◌, IfOk, IfErr, IsTrue, IsFalse};
 ghost use Rattle.turnstile.specs.declared.claim.Claim.TheVariants.{Free};
 ghost use Rattle.turnstile.specs.declared.view.Stage.TheVariants.{Won, Took};
-ghost use Rattle.turnstile.specs.TurnRule.{kind_of, residency_of, IsMember};
-ghost use Rattle.turnstile.specs.Steps.{without};
+ghost use Rattle.turnstile.specs.TurnRule.{kind_of, residency_of, IsMember, IsCount};
+ghost use Rattle.turnstile.specs.Steps.{without, won};
 ghost use Rattle.turnstile.specs.Tokens.{id_of, lock_of, turns_of, IsAway, HasTaken, chair_lock, out_of, KeepsOthers};
 
 use super::{Chair, Pass, Turnstile};
 use crate::claim::{Claim, Listing};
 use crate::steps::{
-    CountUp, GiveUp, JoinPass, NamePass, SetKind, SetResidency, SplitPass, TakeOut, Try,
+    Count, GiveUp, JoinPass, NamePass, SetKind, SetResidency, SplitPass, TakeOut, Try,
 };
-use atomic_table::{Refused, Table};
+use crate::view::View;
+use atomic_table::{Refused, Seat, Table};
 use std::alloc::Global;
 use std::sync::Wait;
+
+// The words that waking rests on, beside word 0, which says who has the turn.
+const GIVEN_UP: usize = 1;
+
+const CHANGES: usize = 2;
+
+const WAITING: usize = 3;
+
+const RESTING: usize = 4;
 
 fn kind(claim: Claim) -> u64
     ensures { result ≡ kind_of claim }
@@ -45,7 +55,7 @@ impl<S: Listing> Turnstile<S> {
             (out_of made.1 ≡ [])) }
         ensures err { IfErr result (λ back. back ≡ value) }
     {
-        let Ok(words) = vec![in alloc; 0u64; 2 * seats as usize + 2] else {
+        let Ok(words) = vec![in alloc; 0u64; 2 * seats as usize + 5] else {
             return Err(value);
         };
         let Ok(mut slots) = Vec::with_capacity(alloc, 1) else {
@@ -73,7 +83,7 @@ impl<S: Listing> Turnstile<S> {
     {
         let shared = &self.table.shared;
         // A split reads no number, so the chair first loads a word that only this number has.
-        shared.load::<NamePass>(&mut chair.seat, 2 * n as usize + 2);
+        shared.load::<NamePass>(&mut chair.seat, 2 * n as usize + 5);
         Pass {
             seat: shared.split_seat::<SplitPass>(&mut chair.seat),
             number: n,
@@ -123,22 +133,108 @@ impl<S: Listing> Turnstile<S> {
         ensures turns { turns_of pass.new ≡ turns_of pass.old + 1 }
         ensures own { S.listed result pass.old.number ≡ pass.old.claim }
     {
-        let shared = &self.table.shared;
+        if !self.win(pass) {
+            self.wait_for_turn(rt, pass);
+        }
+        self.take_out(pass)
+    }
+
+    /// Hands value and turn back, and wakes one who waits for the turn and all who rest. The pass's
+    /// claim becomes the one that the value lists for its seat; what it lists for others is as it
+    /// was when it was taken.
+    pub fn leave_turn(&self, pass: &mut Pass<S>, value: S)
+        requires lock { lock_of pass.old ≡ id_of self.now }
+        requires turn { KeepsOthers S.listed self.now.seats pass.old value }
+        ensures lock { lock_of pass.new ≡ lock_of pass.old }
+        ensures seat { (pass.new.number ≡ pass.old.number) × (pass.new.claim ≡ S.listed value pass.old.number) }
+        ensures away { IsAway pass.new }
+        ensures turns { turns_of pass.new ≡ turns_of pass.old }
+    {
+        // Counted while the pass has the turn: so the count that a pass reads in its turn is that
+        // of the value which it has.
+        self.count_up(&mut pass.seat, CHANGES);
+        self.give_up(pass, value);
+        if self.table.shared.peek(RESTING) != 0 {
+            self.table.shared.wake_all(CHANGES);
+        }
+    }
+
+    /// Gives the turn up, sleeps until a turn was left by `leave_turn`, and takes the turn again.
+    ///
+    /// The value goes back as at `leave_turn`, but this wakes nobody who rests: what the pass
+    /// changed in it is nothing that others rest for. So passes that rest don't wake each other.
+    pub fn rest<R: Wait>(&self, rt: &R, pass: &mut Pass<S>, value: S) -> S
+        requires lock { lock_of pass.old ≡ id_of self.now }
+        requires turn { KeepsOthers S.listed self.now.seats pass.old value }
+        ensures lock { lock_of pass.new ≡ lock_of pass.old }
+        ensures seat { (pass.new.number ≡ pass.old.number) × (pass.new.claim ≡ S.listed value pass.old.number) }
+        ensures turn { HasTaken pass.new result }
+        ensures turns { turns_of pass.new ≡ turns_of pass.old + 1 }
+        ensures own { S.listed result pass.old.number ≡ S.listed value pass.old.number }
+    {
+        // Both while the pass has the turn, in which no other counts a change: a later one is above
+        // this count, and who makes it finds that a pass rests. Read after the turn was given up, a
+        // change between would be missed, and the pass might sleep for ever.
+        let changes = self.table.shared.peek(CHANGES);
+        self.count_up(&mut pass.seat, RESTING);
+        self.give_up(pass, value);
+        self.wait_for_change(rt, changes);
+        self.count_down(&mut pass.seat, RESTING);
+        self.take_turn(rt, pass)
+    }
+
+    // Asks for the turn once, and tells whether the pass has it now.
+    fn win(&self, pass: &mut Pass<S>) -> bool
+        requires lock { lock_of pass.old ≡ id_of self.now }
+        requires away { IsAway pass.old }
+        ensures lock { lock_of pass.new ≡ lock_of pass.old }
+        ensures seat { (pass.new.number ≡ pass.old.number) × (pass.new.claim ≡ pass.old.claim) }
+        ensures won { IsTrue result → pass.new.seat.me.0 ≡ won pass.old.seat.me.0 }
+        ensures lost { IsFalse result → pass.new.seat.me ≡ pass.old.seat.me }
+    {
         let mine = pass.number as u64 + 1;
+        self.table
+            .shared
+            .compare_exchange::<Try>(&mut pass.seat, 0, 0, mine)
+            == 0
+    }
+
+    // Waits for the turn until the pass has it.
+    fn wait_for_turn<R: Wait>(&self, rt: &R, pass: &mut Pass<S>)
+        requires lock { lock_of pass.old ≡ id_of self.now }
+        requires away { IsAway pass.old }
+        ensures lock { lock_of pass.new ≡ lock_of pass.old }
+        ensures seat { (pass.new.number ≡ pass.old.number) × (pass.new.claim ≡ pass.old.claim) }
+        ensures won { pass.new.seat.me.0 ≡ won pass.old.seat.me.0 }
+    {
+        let shared = &self.table.shared;
+        // Both before the try: whoever has the turn when it fails counts later that it gave the
+        // turn up, which ends the park, and finds then that a pass waits.
+        self.count_up(&mut pass.seat, WAITING);
         for _ in rt.forever() {
-            // Read before the try: a turn that is given up after a failed try then ends the park.
-            let given_up = shared.peek(1);
-            if shared.compare_exchange::<Try>(&mut pass.seat, 0, 0, mine) == 0 {
-                return self.take_out(pass);
+            let given_up = shared.peek(GIVEN_UP);
+            if self.win(pass) {
+                self.count_down(&mut pass.seat, WAITING);
+                return;
             }
-            shared.park(rt, 1, (given_up & 0xffff_ffff) as u32);
+            shared.park(rt, GIVEN_UP, (given_up & 0xffff_ffff) as u32);
         }
         unreachable!()
     }
 
-    /// Hands value and turn back, and wakes whoever waits. The pass's claim becomes the one that
-    /// the value lists for its seat; what it lists for others is as it was when it was taken.
-    pub fn leave_turn(&self, pass: &mut Pass<S>, value: S)
+    // Waits while the count of changes is this one.
+    fn wait_for_change<R: Wait>(&self, rt: &R, count: u64) {
+        let shared = &self.table.shared;
+        for _ in rt.forever() {
+            if shared.peek(CHANGES) != count {
+                break;
+            }
+            shared.park(rt, CHANGES, (count & 0xffff_ffff) as u32);
+        }
+    }
+
+    // Hands value and turn back, and wakes one who waits for the turn.
+    fn give_up(&self, pass: &mut Pass<S>, value: S)
         requires lock { lock_of pass.old ≡ id_of self.now }
         requires turn { KeepsOthers S.listed self.now.seats pass.old value }
         ensures lock { lock_of pass.new ≡ lock_of pass.old }
@@ -152,38 +248,30 @@ impl<S: Listing> Turnstile<S> {
         let left = shared.exchange(&mut pass.seat, 0, Some(value));
         let None = left else { unreachable!() };
         shared.swap::<GiveUp>(&mut pass.seat, 0, 0);
-        shared.fetch_add::<CountUp>(&mut pass.seat, 1, 1);
-        shared.wake_all(1);
-    }
-
-    /// Leaves as `leave_turn` does, waits until another turn was given up, and takes the turn
-    /// again.
-    pub fn rest<R: Wait>(&self, rt: &R, pass: &mut Pass<S>, value: S) -> S
-        requires lock { lock_of pass.old ≡ id_of self.now }
-        requires turn { KeepsOthers S.listed self.now.seats pass.old value }
-        ensures lock { lock_of pass.new ≡ lock_of pass.old }
-        ensures seat { (pass.new.number ≡ pass.old.number) × (pass.new.claim ≡ S.listed value pass.old.number) }
-        ensures turn { HasTaken pass.new result }
-        ensures turns { turns_of pass.new ≡ turns_of pass.old + 1 }
-        ensures own { S.listed result pass.old.number ≡ S.listed value pass.old.number }
-    {
-        // Read while no other pass can give up a turn: when this one has, the count is one more.
-        // Read later, a turn given up between would be missed, and the pass might sleep for ever.
-        let own_turn = self.table.shared.peek(1).wrapping_add(1);
-        self.leave_turn(pass, value);
-        self.wait_for_another(rt, own_turn);
-        self.take_turn(rt, pass)
-    }
-
-    // Waits while the count of turns given up is this one.
-    fn wait_for_another<R: Wait>(&self, rt: &R, count: u64) {
-        let shared = &self.table.shared;
-        for _ in rt.forever() {
-            if shared.peek(1) != count {
-                break;
-            }
-            shared.park(rt, 1, (count & 0xffff_ffff) as u32);
+        self.count_up(&mut pass.seat, GIVEN_UP);
+        if shared.peek(WAITING) != 0 {
+            shared.wake_one(GIVEN_UP);
         }
+    }
+
+    // One more in a word that waking rests on.
+    fn count_up(&self, seat: &mut Seat<Option<S>, View<S>>, word: usize)
+        requires lock { seat.old.table_id ≡ id_of self.now }
+        requires word { IsCount word }
+        ensures lock { seat.new.table_id ≡ seat.old.table_id }
+        ensures same { seat.new.me ≡ seat.old.me }
+    {
+        self.table.shared.fetch_add::<Count>(seat, word, 1);
+    }
+
+    // One less in it.
+    fn count_down(&self, seat: &mut Seat<Option<S>, View<S>>, word: usize)
+        requires lock { seat.old.table_id ≡ id_of self.now }
+        requires word { IsCount word }
+        ensures lock { seat.new.table_id ≡ seat.old.table_id }
+        ensures same { seat.new.me ≡ seat.old.me }
+    {
+        self.table.shared.fetch_sub::<Count>(seat, word, 1);
     }
 
     // The pass has just won the turn.
@@ -210,7 +298,7 @@ impl<S: Listing> Turnstile<S> {
         ensures view { (pass.new.seat.me.0.stage ≡ pass.old.seat.me.0.stage) × (turns_of pass.new ≡ turns_of pass.old) }
     {
         let shared = &self.table.shared;
-        let at = 2 * pass.number as usize + 2;
+        let at = 2 * pass.number as usize + 5;
         shared.swap::<SetKind>(&mut pass.seat, at, kind(claim));
         shared.swap::<SetResidency>(&mut pass.seat, at + 1, residency(claim));
         pass.claim = claim;

@@ -7,7 +7,7 @@ swap-requires g c = let t = c.requires.took in let p = c.args.pass.now.passes in
     let same = ap (λ z. z.words) c.requires.lock in let inside = c.args.pass.now.inside in (
       search rules,
       omega (arith, same, inside),
-      sets_kind g.S.Listing.listed _ _ _ _ t.0 _ _ (ap (λ k. 2 * k + 2) (sym p.1)) p.0 t.1,
+      sets_kind g.S.Listing.listed _ _ _ _ t.0 _ _ (ap (λ k. 2 * k + 5) (sym p.1)) p.0 t.1,
     )
 
 pub swap-requires-2 : goal.swap-requires-2

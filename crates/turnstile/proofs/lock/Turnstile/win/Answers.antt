@@ -1,6 +1,6 @@
 use Rattle.std.proofs.Common.{rules}
 use Rattle.turnstile.proofs.Keeps.{tries}
-use Rattle.turnstile.proofs.lock.Turnstile.take_turn.Goals as goal
+use Rattle.turnstile.proofs.lock.Turnstile.win.Goals as goal
 
 pub compare_exchange-requires : goal.compare_exchange-requires
 compare_exchange-requires g c = (

@@ -2,8 +2,8 @@ use Rattle.std.proofs.Common.{rules, arith, sym, ap, ◌∙◌, ◌∷◌, Some}
 use Rattle.atomic_table.specs.Table.{rest}
 use Rattle.turnstile.specs.TurnRule.{kind_of, residency_of}
 use Rattle.turnstile.specs.Steps.{in_hand}
-use Rattle.turnstile.proofs.Keeps.{gives_up, counts_up}
-use Rattle.turnstile.proofs.lock.Turnstile.leave_turn.Goals as goal
+use Rattle.turnstile.proofs.Keeps.{gives_up}
+use Rattle.turnstile.proofs.lock.Turnstile.give_up.Goals as goal
 
 pub swap-requires : goal.swap-requires
 swap-requires g c = let t = c.requires.turn in let q = c.write_claim.new.pass in
@@ -21,6 +21,3 @@ swap-requires g c = let t = c.requires.turn in let q = c.write_claim.new.pass in
           ∙ ap residency_of claim))
           (λ j l ne. t.2 j (omega (arith, c.args.self.now.sized.2, l)) (λ h. ne (h ∙ sym number))),
     )
-
-pub fetch_add-requires : goal.fetch_add-requires
-fetch_add-requires g c = (search rules, search rules, counts_up g.S.Listing.listed _ _ _ _ _)

@@ -1,5 +1,5 @@
 use Rattle.std.proofs.Common.{◌≡◌}
-use Rattle.turnstile.proofs.lock.Turnstile.take_turn.Given as goal
+use Rattle.turnstile.proofs.lock.Turnstile.wait_for_turn.Given as goal
 
 abbrev pub invariant-loop : goal.invariant-loop
 invariant-loop g l = (l.pass.seat.table_id ≡ l.initial.pass.seat.table_id) ×
