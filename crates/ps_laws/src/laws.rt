@@ -10,6 +10,7 @@ ghost use Rattle.ps_laws.specs.Limits.{IsLimited, KeepsLimits};
 ghost use Rattle.ps_laws.specs.Reached.{IsReached};
 ghost use Rattle.ps_laws.specs.Ending.{EndsWithin};
 ghost use Rattle.ps_laws.specs.Stored.{IsStored, KeepsStored};
+ghost use Rattle.ps_laws.specs.Frames.{IsFramed, KeepsFrames};
 
 /// A program starts within the limits of the operands, the levels and the dictionary stack.
 pub fn limits_at_start()
@@ -54,8 +55,26 @@ pub fn stored_kept()
 
 /// So no program ever comes to a state that holds a number of a composite which its store lacks: on the
 /// operands, in the composites themselves, on the dictionary stack, in the levels, in the object that is to be
-/// executed at once, or in the procedures of the text that aren't closed yet.
+/// executed at once, in the procedures of the text that aren't closed yet, or in those that an operator waits for.
 pub fn stored_when_reached()
     ensures { (text : List ℕ) (setup : SetupValue) (s : BodyValue) →
         IsReached (opening opening_store text setup) s → IsStored s }
+{}
+
+/// A program starts with no guarded procedure among its levels, and no operator that waits for one.
+pub fn frames_at_start()
+    ensures { (store : StoreValue) (text : List ℕ) (setup : SetupValue) → IsFramed (opening store text setup) }
+{}
+
+/// Each step keeps it that there are as many frames as guarded levels: the end of such a procedure, an error and
+/// `stop` take both away together.
+pub fn frames_kept()
+    ensures { (s : BodyValue) → IsFramed s → KeepsFrames (step s) }
+{}
+
+/// So in each state that a program comes to exactly the operators wait whose procedures are among the levels: none
+/// waits for a procedure that was taken away, and none is missing where its procedure ends.
+pub fn frames_when_reached()
+    ensures { (store : StoreValue) (text : List ℕ) (setup : SetupValue) (s : BodyValue) →
+        IsReached (opening store text setup) s → IsFramed s }
 {}
