@@ -1,6 +1,6 @@
 -- Each step leaves as many frames as guarded procedures.
 use Rattle.std.specs.Prelude.{nat_lt, codes}
-use Rattle.std.proofs.Common.{◌≡◌, ◌∙◌, ℕ, true, false, List, [], ◌∷◌, length, Option, Some, None, refl, sym, subst}
+use Rattle.std.proofs.Common.{ℕ, true, false, List, [], ◌∷◌, length, Option, Some, None, refl, sym, subst}
 use Rattle.press_fault.specs.declared.names.PsName.TheVariants.{StackOverflow, Undefined, SyntaxError, LimitCheck}
 use Rattle.ps_scan.specs.declared.token.Token.{Token}
 use Rattle.ps_scan.specs.declared.token.Token.TheVariants.{Int, Real, Literal, Exec, Now, Text, Open, Close, End}
@@ -14,8 +14,7 @@ use Rattle.ps_store.specs.declared.obj.Part.{Part}
 use Rattle.ps_store.specs.declared.key.Key.TheVariants.{Named}
 use Rattle.ps_store.specs.Store.{StoreValue, element, with_text_of, with_array_of}
 use Rattle.ps_store.specs.Dicts.{find_key}
-use Rattle.ps_flow.specs.declared.level.Level.{Level}
-use Rattle.ps_flow.specs.Levels.{Upcoming, next_of, guarded_in}
+use Rattle.ps_flow.specs.Levels.{Upcoming, next_of}
 use Rattle.ps_flow.specs.Levels.Upcoming.{Run, Turn, Passed, Returned, Empty}
 use Rattle.ps_machine.specs.Setup.{SetupValue}
 use Rattle.ps_machine.specs.State.{BodyValue, opening}

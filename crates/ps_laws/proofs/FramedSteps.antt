@@ -2,7 +2,7 @@
 use Rattle.std.specs.Prelude.{nat_lt, nat_le, ◌==◌, ◌||◌, codes}
 use Rattle.std.proofs.lemmas.List.{length-drop}
 use Rattle.std.proofs.Common.{◌≡◌, ◌∙◌, ℕ, suc, ◌+◌, ◌-◌, ◌≤◌, true, List, [], ◌∷◌, length, drop, Option, Some, None}
-use Rattle.std.proofs.Common.{refl, sym, arith}
+use Rattle.std.proofs.Common.{sym, arith}
 use Rattle.press_fault.specs.declared.names.PsName.{PsName}
 use Rattle.press_fault.specs.declared.names.PsName.TheVariants.{StackOverflow, TypeCheck, Undefined, LimitCheck}
 use Rattle.press_fault.specs.declared.names.PsName.TheVariants.{ExecStackOverflow}
@@ -31,7 +31,7 @@ use Rattle.ps_image_ops.specs.declared.reading.Begun.{Begun}
 use Rattle.ps_image_ops.specs.Reading.{ReadingValue, lacks, read_on, read_over, placed}
 use Rattle.ps_image_ops.specs.Rows.{image_row}
 use Rattle.ps_flow.specs.declared.level.Level.{Level}
-use Rattle.ps_flow.specs.declared.level.Level.TheVariants.{Procedure, Guarded}
+use Rattle.ps_flow.specs.declared.level.Level.TheVariants.{Procedure}
 use Rattle.ps_flow.specs.declared.pushes.Pushes.{Pushes}
 use Rattle.ps_flow.specs.Pushes.{with_pushes, number_of_pushes}
 use Rattle.ps_flow.specs.Levels.{is_stopped, guarded_in}
@@ -42,12 +42,13 @@ use Rattle.ps_machine.specs.declared.frames.Frame.TheVariants.{Image as ReadsOn}
 use Rattle.ps_machine.specs.State.{BodyValue, frames_of, cut_back_to}
 use Rattle.ps_machine.specs.Errors.{StepOutcome, Goes, Caught, Lands, Falls, caught, after_caught, failed, pushes}
 use Rattle.ps_machine.specs.Errors.{counted}
-use Rattle.ps_machine.specs.Images.{after_placed, finished, called, behind_bytes, from_source, begins, after_image}
+use Rattle.ps_machine.specs.Images.{after_placed, finished, called, behind_bytes, from_source, after_image}
 use Rattle.ps_machine.specs.Images.{reads_on, after_procedure, returned}
 use Rattle.ps_machine.specs.Steps.{after_stack, work_of, after_data, after_gfx, after_flow, after_stop, operate_flow}
 use Rattle.ps_machine.specs.Steps.{operate, call, execute_value, execute, turned}
 use Rattle.ps_laws.specs.Frames.{IsFramed, KeepsFrames}
 use Rattle.ps_laws.proofs.Operands.{by_test}
+use Rattle.ps_laws.proofs.Calling.{with_call}
 use Rattle.ps_laws.proofs.Guards.{guarded_more, fewer_below, FlowHas, IsNoStop, flow_has, StopLeaves, stop_leaves}
 
 -- with the levels cut back, the frames that are left are those of the levels that are left
@@ -148,17 +149,10 @@ framed_placed None r operands s h = framed_failed LimitCheck (name_of (Image r.o
 -- a call makes a frame and a guarded procedure
 framed_called : (r : ReadingValue) (p : PartValue) (operands : List Obj) (s : BodyValue) → IsFramed s →
     KeepsFrames (called r p operands s)
-framed_called r p operands s h = by_test KeepsFrames (nat_lt (length s.levels) 250) (counted s (λ t. Goes (record t {
-      operands = operands;
-      levels = Guarded p ∷ t.levels;
-      frames = ReadsOn p r ∷ t.frames;
-    })))
-    (failed ExecStackOverflow (name_of (Image r.op)) s)
-    (λ e. framed_counted s (λ t. Goes (record t {
-      operands = operands;
-      levels = Guarded p ∷ t.levels;
-      frames = ReadsOn p r ∷ t.frames;
-    })) h (λ t k. let one = guarded_more p t.levels in omega (arith, k, one)))
+framed_called r p operands s h = by_test KeepsFrames (nat_lt (length s.levels) 250)
+    (counted s (λ t. Goes (with_call r p operands t))) (failed ExecStackOverflow (name_of (Image r.op)) s)
+    (λ e. framed_counted s (λ t. Goes (with_call r p operands t)) h
+    (λ t k. let one = guarded_more p t.levels in omega (arith, k, one)))
     (λ e. framed_failed ExecStackOverflow (name_of (Image r.op)) s h)
 
 framed_source : (source : DataSource) (r : ReadingValue) (operands : List Obj) (s : BodyValue) → IsFramed s →

@@ -2,7 +2,8 @@
 use Rattle.std.specs.Prelude.{nat_lt, ◌==◌, ◌||◌, codes}
 use Rattle.std.proofs.lemmas.Bool.{ltb-true}
 use Rattle.std.proofs.lemmas.List.{length-drop}
-use Rattle.std.proofs.Common.{◌≡◌, ℕ, ◌+◌, ◌-◌, ◌*◌, ◌≤◌, ◌<◌, true, List, [], ◌∷◌, length, drop, Option, Some, None, arith}
+use Rattle.std.proofs.Common.{◌≡◌, ℕ, ◌+◌, ◌-◌, ◌≤◌, List, [], ◌∷◌, length, drop, Option, Some, None}
+use Rattle.std.proofs.Common.{arith}
 use Rattle.press_fault.specs.declared.names.PsName.TheVariants.{TypeCheck, LimitCheck, Timeout, ExecStackOverflow}
 use Rattle.ps_store.specs.declared.obj.Obj.{Obj}
 use Rattle.ps_store.specs.declared.obj.Obj.TheVariants.{Text}
@@ -11,7 +12,6 @@ use Rattle.ps_store.specs.Operators.{name_of}
 use Rattle.ps_store.specs.Outcome.{Outcome, Goes as GoesOn, Refuses}
 use Rattle.ps_store.specs.Parts.{PartValue}
 use Rattle.ps_store.specs.Store.{bytes_of}
-use Rattle.ps_flow.specs.declared.level.Level.TheVariants.{Guarded}
 use Rattle.gfx_state.specs.Graphics.{GfxValue}
 use Rattle.ps_image_ops.specs.declared.parameters.DataSource.{DataSource}
 use Rattle.ps_image_ops.specs.declared.parameters.DataSource.TheVariants.{Bytes, Program, Procedure}
@@ -24,8 +24,9 @@ use Rattle.ps_machine.specs.State.{BodyValue}
 use Rattle.ps_machine.specs.Errors.{Goes, Ends, failed, counted}
 use Rattle.ps_machine.specs.Images.{after_placed, finished, called, behind_bytes, from_source, begins, after_image}
 use Rattle.ps_machine.specs.Images.{reads_on, after_procedure, returned}
-use Rattle.ps_laws.proofs.Weight.{budget, Lowers, Idle, idle_zero}
+use Rattle.ps_laws.proofs.Weight.{Lowers, Idle, idle_zero}
 use Rattle.ps_laws.proofs.Operands.{by_test}
+use Rattle.ps_laws.proofs.Calling.{with_call}
 use Rattle.ps_laws.proofs.Failing.{lowers_failed}
 
 lowers_placed : (n : ℕ) (g : Option GfxValue) (r : ReadingValue) (operands : List Obj) (s : BodyValue) →
@@ -41,18 +42,10 @@ lowers_finished n r operands s few h = lowers_placed n (placed r s.graphics) r o
 -- a call counts, and an object more takes more steps than a level
 lowers_called : (n : ℕ) (r : ReadingValue) (p : PartValue) (operands : List Obj) (s : BodyValue) →
     length operands ≤ 500 → Idle n s → Lowers n (called r p operands s)
-lowers_called n r p operands s few h = by_test (Lowers n) (nat_lt (length s.levels) 250) (counted s (λ t. Goes (record t {
-      operands = operands;
-      levels = Guarded p ∷ t.levels;
-      frames = Image p r ∷ t.frames;
-    })))
-    (failed ExecStackOverflow (name_of (OnImage r.op)) s)
-    (λ e. by_test (Lowers n) (nat_lt s.count 100000000) (Goes (record s {
-      count = s.count + 1;
-      operands = operands;
-      levels = Guarded p ∷ s.levels;
-      frames = Image p r ∷ s.frames;
-    })) (Ends (Ps Timeout (codes "run")))
+lowers_called n r p operands s few h = by_test (Lowers n) (nat_lt (length s.levels) 250)
+    (counted s (λ t. Goes (with_call r p operands t))) (failed ExecStackOverflow (name_of (OnImage r.op)) s)
+    (λ e. by_test (Lowers n) (nat_lt s.count 100000000)
+    (Goes (with_call r p operands (record s { count = s.count + 1 }))) (Ends (Ps Timeout (codes "run")))
     (λ f. let l = ltb-true (length s.levels) 250 e in
     let c = ltb-true s.count 100000000 f in
     let w = idle_zero s.at_once (length operands) h.1 in

@@ -5,6 +5,7 @@ pub mod DataRows
 pub mod FlowRows
 pub mod EaselRows
 pub mod GfxRows
+pub mod Calling
 pub mod Failing
 pub mod ImageSteps
 pub mod Steps

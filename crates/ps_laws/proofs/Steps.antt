@@ -1,8 +1,7 @@
 -- What is executed leaves fewer steps, within the limits.
 use Rattle.std.specs.Prelude.{nat_lt, nat_le, codes}
 use Rattle.std.proofs.lemmas.Bool.{ltb-true, leb-true}
-use Rattle.std.proofs.Common.{◌≡◌, ℕ, suc, ◌+◌, ◌*◌, ◌≤◌, ◌<◌, true, List, [], ◌∷◌, length, Option, Some, None, arith}
-use Rattle.press_fault.specs.declared.names.PsName.{PsName}
+use Rattle.std.proofs.Common.{◌≡◌, ℕ, ◌+◌, true, List, ◌∷◌, length, Option, Some, None, arith}
 use Rattle.press_fault.specs.declared.names.PsName.TheVariants.{StackOverflow, Undefined, ExecStackOverflow}
 use Rattle.ps_store.specs.declared.obj.Obj.{Obj}
 use Rattle.ps_store.specs.declared.obj.Obj.TheVariants.{Bool as Truth, Name, Array, Oper as Operator}
@@ -27,7 +26,6 @@ use Rattle.ps_flow.specs.declared.level.Level.TheVariants.{Procedure}
 use Rattle.ps_flow.specs.declared.pushes.Pushes.{Pushes}
 use Rattle.ps_flow.specs.declared.pushes.Pushes.TheVariants.{Nothing, One, Two}
 use Rattle.ps_flow.specs.Pushes.{with_pushes, number_of_pushes}
-use Rattle.ps_flow.specs.Levels.{is_stopped}
 use Rattle.ps_flow.specs.Course.{OperandsAndLevels}
 use Rattle.ps_flow.specs.Rows.{flow_row}
 use Rattle.ps_machine.specs.State.{BodyValue}
@@ -35,7 +33,7 @@ use Rattle.ps_machine.specs.State.{cut_back_to}
 use Rattle.ps_machine.specs.Errors.{Goes, failed}
 use Rattle.ps_machine.specs.Steps.{after_stack, work_of, after_data, after_gfx, after_flow, after_stop, operate_flow}
 use Rattle.ps_machine.specs.Steps.{operate, call, execute_value, execute, turned}
-use Rattle.ps_laws.proofs.Weight.{budget, Lowers, Idle, Ready, Free, idle_zero, idle, free}
+use Rattle.ps_laws.proofs.Weight.{Lowers, Idle, Ready, idle_zero, idle, free}
 use Rattle.ps_laws.proofs.Operands.{by_test}
 use Rattle.ps_laws.proofs.StackRows.{FewOfDesk, stack_few}
 use Rattle.ps_laws.proofs.DataRows.{DataFits, data_fits}

@@ -1,7 +1,7 @@
 -- Images that are read leave what is of the store.
 use Rattle.std.specs.Prelude.{ℤ, nat_lt, ◌==◌, ◌||◌, slice_get, codes, if◌then◌else◌}
 use Rattle.std.specs.Option.{option_and_then}
-use Rattle.std.proofs.Common.{ℕ, ◌+◌, ◌<◌, ◌≡◌, true, false, Bool, List, [], ◌∷◌, length, drop, Option, Some, None}
+use Rattle.std.proofs.Common.{ℕ, ◌+◌, ◌<◌, true, false, Bool, List, [], ◌∷◌, length, drop, Option, Some, None}
 use Rattle.std.proofs.Common.{Result, Ok, Err}
 use Rattle.press_fault.specs.declared.names.PsName.{PsName}
 use Rattle.press_fault.specs.declared.names.PsName.TheVariants.{StackUnderflow, TypeCheck, RangeCheck, Undefined}
@@ -16,7 +16,6 @@ use Rattle.ps_store.specs.Operators.{name_of}
 use Rattle.ps_store.specs.Outcome.{Outcome, Goes as GoesOn, Refuses, or_refusal}
 use Rattle.ps_store.specs.Parts.{PartValue}
 use Rattle.ps_store.specs.Store.{StoreValue, bytes_of}
-use Rattle.ps_flow.specs.declared.level.Level.TheVariants.{Guarded}
 use Rattle.gfx_state.specs.Colour.{channels_of}
 use Rattle.gfx_state.specs.Graphics.{GfxValue}
 use Rattle.ps_image_ops.specs.declared.parameters.DataSource.{DataSource}
@@ -24,7 +23,7 @@ use Rattle.ps_image_ops.specs.declared.parameters.DataSource.TheVariants.{Bytes,
 use Rattle.ps_image_ops.specs.declared.reading.Begun.{Begun}
 use Rattle.ps_image_ops.specs.Parameters.{is_mask, numbers_of, source_of, integer_at, boolean_at, numbers_at, source_at}
 use Rattle.ps_image_ops.specs.Parameters.{gray_image, operand_mask, channels_told, components_image, colour_image}
-use Rattle.ps_image_ops.specs.Parameters.{value_in, integer_in, bits_by, decode_by, has_keys, is_type_one, of_type}
+use Rattle.ps_image_ops.specs.Parameters.{value_in, integer_in, bits_by, decode_by, has_keys, is_type_one}
 use Rattle.ps_image_ops.specs.Parameters.{described, dictionary_image, dictionary_on_top, image_told, imagemask_told}
 use Rattle.ps_image_ops.specs.Parameters.{colorimage_told, told}
 use Rattle.ps_image_ops.specs.Conditions.{sampling_of, fits_page}
@@ -35,10 +34,11 @@ use Rattle.ps_machine.specs.declared.frames.Frame.TheVariants.{Image}
 use Rattle.ps_machine.specs.declared.turn.End.TheVariants.{Ps}
 use Rattle.ps_machine.specs.State.{BodyValue}
 use Rattle.ps_machine.specs.Errors.{Goes, Ends, failed, counted}
-use Rattle.ps_machine.specs.Images.{after_placed, finished, called, behind_bytes, from_source, begins, after_image}
+use Rattle.ps_machine.specs.Images.{after_placed, finished, called, behind_bytes, from_source, after_image}
 use Rattle.ps_machine.specs.Images.{reads_on, after_procedure, returned}
 use Rattle.ps_laws.specs.Stored.{Each, IsOf, IsFrameOf}
 use Rattle.ps_laws.proofs.Operands.{by_test}
+use Rattle.ps_laws.proofs.Calling.{with_call}
 use Rattle.ps_laws.proofs.Each.{Sound, OfSome, each_get, each_drop}
 use Rattle.ps_laws.proofs.StoredData.{found_is}
 use Rattle.ps_laws.proofs.StoredFailing.{Stored, Keeps, keeps_failed}
@@ -201,18 +201,10 @@ keeps_placed None r os s k h = keeps_failed LimitCheck (name_of (Images r.op)) s
 
 keeps_called : (r : ReadingValue) (p : PartValue) (os : List Obj) (s : BodyValue) → p.id < length s.store.made →
     Each (IsOf (length s.store.made)) os → Stored s → Keeps (called r p os s)
-keeps_called r p os s f k h = by_test Keeps (nat_lt (length s.levels) 250) (counted s (λ t. Goes (record t {
-      operands = os;
-      levels = Guarded p ∷ t.levels;
-      frames = Image p r ∷ t.frames;
-    })))
-    (failed ExecStackOverflow (name_of (Images r.op)) s)
-    (λ e. by_test Keeps (nat_lt s.count 100000000) (Goes (record s {
-      count = s.count + 1;
-      operands = os;
-      levels = Guarded p ∷ s.levels;
-      frames = Image p r ∷ s.frames;
-    })) (Ends (Ps Timeout (codes "run")))
+keeps_called r p os s f k h = by_test Keeps (nat_lt (length s.levels) 250)
+    (counted s (λ t. Goes (with_call r p os t))) (failed ExecStackOverflow (name_of (Images r.op)) s)
+    (λ e. by_test Keeps (nat_lt s.count 100000000)
+    (Goes (with_call r p os (record s { count = s.count + 1 }))) (Ends (Ps Timeout (codes "run")))
     (λ c. (h.0, k, h.2, (f, h.3), h.4, h.5, (f, h.6)))
     (λ c. tt))
     (λ e. keeps_failed ExecStackOverflow (name_of (Images r.op)) s h)

@@ -1,7 +1,6 @@
 -- What is executed leaves what is of the store.
 use Rattle.std.specs.Prelude.{nat_lt, nat_le, codes}
-use Rattle.std.proofs.Common.{refl, ◌≡◌, ℕ, ◌+◌, ◌≤◌, ◌<◌, true, List, [], ◌∷◌, length, Option, Some, None, arith}
-use Rattle.press_fault.specs.declared.names.PsName.{PsName}
+use Rattle.std.proofs.Common.{ℕ, ◌+◌, true, List, ◌∷◌, length, Option, Some, None, arith}
 use Rattle.press_fault.specs.declared.names.PsName.TheVariants.{StackOverflow, Undefined, ExecStackOverflow}
 use Rattle.ps_store.specs.declared.obj.Obj.{Obj}
 use Rattle.ps_store.specs.declared.obj.Obj.TheVariants.{Bool as Truth, Name, Array, Oper as Operator}
@@ -26,7 +25,6 @@ use Rattle.ps_flow.specs.declared.level.Level.TheVariants.{Procedure}
 use Rattle.ps_flow.specs.declared.pushes.Pushes.{Pushes}
 use Rattle.ps_flow.specs.declared.pushes.Pushes.TheVariants.{Nothing, One, Two}
 use Rattle.ps_flow.specs.Pushes.{with_pushes, number_of_pushes}
-use Rattle.ps_flow.specs.Levels.{is_stopped}
 use Rattle.ps_flow.specs.Course.{OperandsAndLevels}
 use Rattle.ps_flow.specs.Rows.{flow_row}
 use Rattle.ps_machine.specs.State.{BodyValue}
@@ -34,7 +32,7 @@ use Rattle.ps_machine.specs.State.{cut_back_to}
 use Rattle.ps_machine.specs.Errors.{Goes, failed}
 use Rattle.ps_machine.specs.Steps.{after_stack, work_of, after_data, after_gfx, after_flow, after_stop, operate_flow}
 use Rattle.ps_machine.specs.Steps.{operate, call, execute_value, execute, turned}
-use Rattle.ps_laws.specs.Stored.{Each, IsOf, IsLevelOf, IsWaitingOf}
+use Rattle.ps_laws.specs.Stored.{Each, IsOf, IsLevelOf}
 use Rattle.ps_laws.proofs.Operands.{by_test}
 use Rattle.ps_laws.proofs.Each.{OfSome}
 use Rattle.ps_laws.proofs.StoredStack.{DeskOf, stack_of}
@@ -62,7 +60,7 @@ keeps_gfx (Refuses name) command s h k = keeps_failed name command s h
 
 keeps_flow : (outcome : Outcome (OperandsAndLevels × StoreValue)) (command : List ℕ) (s : BodyValue) → Stored s →
     FlowOf (length s.store.made) outcome → Keeps (after_flow outcome command s)
-keeps_flow (GoesOn course) command s h k = let g = stored_grown s course.1 h k.0 in 
+keeps_flow (GoesOn course) command s h k = let g = stored_grown s course.1 h k.0 in
     (g.0, k.1.0, g.2, k.1.1, k.1.2, g.5, g.6)
 keeps_flow (Refuses name) command s h k = keeps_failed name command s h
 

@@ -6,7 +6,7 @@ use Rattle.ps_flow.specs.Levels.{guarded_in}
 use Rattle.ps_machine.specs.State.{BodyValue}
 use Rattle.ps_machine.specs.Errors.{StepOutcome, Goes, Shows, Ends}
 
--- a state has as many frames as guarded procedures among its levels: exactly the operators wait whose procedures run
+-- as many operators wait as guarded procedures are among the levels
 abbrev pub IsFramed : BodyValue → Type 0
 IsFramed s = length s.frames ≡ guarded_in s.levels
 

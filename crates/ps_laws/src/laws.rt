@@ -61,19 +61,19 @@ pub fn stored_when_reached()
         IsReached (opening opening_store text setup) s → IsStored s }
 {}
 
-/// A program starts with no guarded procedure among its levels, and no operator that waits for one.
+/// A program starts without guarded procedures, and no operator waits for one.
 pub fn frames_at_start()
     ensures { (store : StoreValue) (text : List ℕ) (setup : SetupValue) → IsFramed (opening store text setup) }
 {}
 
-/// Each step keeps it that there are as many frames as guarded levels: the end of such a procedure, an error and
-/// `stop` take both away together.
+/// Each step keeps it that as many operators wait as guarded procedures are among the levels: the end of such a
+/// procedure, an error and `stop` take a level and its frame away together.
 pub fn frames_kept()
     ensures { (s : BodyValue) → IsFramed s → KeepsFrames (step s) }
 {}
 
-/// So in each state that a program comes to exactly the operators wait whose procedures are among the levels: none
-/// waits for a procedure that was taken away, and none is missing where its procedure ends.
+/// So in each state that a program comes to the machine has as many frames as guarded levels: where a procedure ends
+/// that an operator called there is an operator to go on, and without such a procedure none is left.
 pub fn frames_when_reached()
     ensures { (store : StoreValue) (text : List ℕ) (setup : SetupValue) (s : BodyValue) →
         IsReached (opening store text setup) s → IsFramed s }
