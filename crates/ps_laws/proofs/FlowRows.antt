@@ -15,7 +15,7 @@ use Rattle.ps_flow.specs.declared.level.Level.{Level}
 use Rattle.ps_flow.specs.declared.level.Level.TheVariants.{Procedure, Stopped, Loop, For, Forall, ForallEntries}
 use Rattle.ps_store.specs.Numbers.{raw_of}
 use Rattle.ps_flow.specs.Counting.{counter_from}
-use Rattle.ps_flow.specs.Levels.{nothing_of, is_loop, is_stopped, below_loop, below_stopped}
+use Rattle.ps_flow.specs.Levels.{nothing_of, is_loop, is_stopped, holds_exit, below_loop, below_stopped}
 use Rattle.ps_flow.specs.Course.{OperandsAndLevels, opens, with_store, with_levels}
 use Rattle.ps_flow.specs.Rows.{exec_row, if_row, ifelse_row, for_from, for_row, repeat_row, loop_row, keys_and_values}
 use Rattle.ps_flow.specs.Rows.{forall_row, cut_back, stopped_row, bind_row, flow_row}
@@ -125,7 +125,7 @@ below_loop_fits : (levels : List Level) → AtMost (length levels) (below_loop l
 below_loop_fits [] = tt
 below_loop_fits (level ∷ below) = by_test (AtMost (suc (length below))) (is_loop level) (Some below) _
     (λ e. omega arith) (λ e.
-    by_test (AtMost (suc (length below))) (is_stopped level) None (below_loop below) (λ f. tt)
+    by_test (AtMost (suc (length below))) (holds_exit level) None (below_loop below) (λ f. tt)
     (λ f. at_most_more (length below) (below_loop below) (below_loop_fits below)))
 
 below_stopped_fits : (levels : List Level) → AtMost (length levels) (below_stopped levels)

@@ -5,6 +5,9 @@ pub mod DataRows
 pub mod FlowRows
 pub mod EaselRows
 pub mod GfxRows
+pub mod Calling
+pub mod Failing
+pub mod ImageSteps
 pub mod Steps
 pub mod Tokens
 pub mod Lowering
@@ -15,6 +18,11 @@ pub mod StoredStack
 pub mod StoredData
 pub mod StoredFlow
 pub mod StoredGfx
+pub mod StoredFailing
+pub mod StoredImages
 pub mod StoredSteps
 pub mod StoredTokens
 pub mod StoredRunning
+pub mod Guards
+pub mod FramedSteps
+pub mod FramedRunning

@@ -9,9 +9,10 @@ use Rattle.ps_store.specs.Parts.{PartValue}
 use Rattle.ps_store.specs.Store.{element}
 use Rattle.ps_flow.specs.declared.pushes.Pushes.TheVariants.{Nothing}
 use Rattle.ps_flow.specs.declared.level.Level.{Level}
-use Rattle.ps_flow.specs.declared.level.Level.TheVariants.{Procedure, Stopped, Loop, Repeat, For, Forall, ForallEntries}
-use Rattle.ps_flow.specs.Levels.Upcoming.{Run, Turn, Passed, Empty}
-use Rattle.ps_flow.specs.Levels.Advance.{Ends, Passes, Gives}
+use Rattle.ps_flow.specs.declared.level.Level.TheVariants.{Procedure, Stopped, Guarded, Loop, Repeat, For, Forall}
+use Rattle.ps_flow.specs.declared.level.Level.TheVariants.{ForallEntries}
+use Rattle.ps_flow.specs.Levels.Upcoming.{Run, Turn, Passed, Returned, Empty}
+use Rattle.ps_flow.specs.Levels.Advance.{Ends, Passes, Returns, Gives}
 use Rattle.ps_flow.specs.Levels.{Upcoming, Advance, Given, running, begins, ends, Value, for_turn, for_given}
 use Rattle.ps_flow.specs.Levels.{forall_given, entries_given, given_of, behind, Next, after, next_of}
 use Rattle.ps_machine.specs.State.{BodyValue}
@@ -19,7 +20,9 @@ use Rattle.ps_machine.specs.Steps.{execute, turned}
 use Rattle.ps_machine.specs.Reading.{go_on, step_at, step}
 use Rattle.ps_laws.proofs.Weight.{waiting, budget, weight, Limits, Lowers, idle}
 use Rattle.ps_laws.proofs.Operands.{by_test}
-use Rattle.ps_laws.proofs.Steps.{lowers_pushes, lowers_counted, lowers_execute, lowers_turned}
+use Rattle.ps_laws.proofs.Failing.{lowers_pushes, lowers_counted}
+use Rattle.ps_laws.proofs.ImageSteps.{lowers_returned}
+use Rattle.ps_laws.proofs.Steps.{lowers_execute, lowers_turned}
 use Rattle.ps_laws.proofs.Tokens.{lowers_read}
 
 -- what a level gives is a place of a procedure or a turn of a loop
@@ -27,9 +30,11 @@ abbrev IsPlaceOrTurn : Advance → Type 0
 IsPlaceOrTurn (Gives (Run place)) = Unit {0}
 IsPlaceOrTurn (Gives (Turn op items)) = Unit {0}
 IsPlaceOrTurn (Gives Passed) = ⊥
+IsPlaceOrTurn (Gives Returned) = ⊥
 IsPlaceOrTurn (Gives Empty) = ⊥
 IsPlaceOrTurn Ends = Unit {0}
 IsPlaceOrTurn Passes = Unit {0}
+IsPlaceOrTurn Returns = Unit {0}
 
 gives_running : (rest : PartValue) (level : PartValue → Level) (over : Given) → IsPlaceOrTurn over.gives →
     IsPlaceOrTurn (running rest level over).gives
@@ -52,6 +57,7 @@ gives_entries ((key, value) ∷ left) body rest = tt
 gives_of : (level : Level) → IsPlaceOrTurn (given_of level).gives
 gives_of (Procedure rest) = gives_running rest Procedure (ends (Procedure rest)) tt
 gives_of (Stopped rest) = gives_running rest Stopped (record { gives = Passes; level = Stopped rest }) tt
+gives_of (Guarded rest) = gives_running rest Guarded (record { gives = Returns; level = Guarded rest }) tt
 gives_of (Loop body rest) = gives_running rest (Loop body) (begins LoopOp Nothing (Loop body body)) tt
 gives_of (Repeat left body rest) = gives_running rest (Repeat left body) _
     (by_test (λ (g : Given). IsPlaceOrTurn g.gives) (left == 0) (ends (Repeat left body rest))
@@ -69,12 +75,14 @@ abbrev IsBehind : ℕ → Upcoming → List Level → Type 0
 IsBehind n (Run place) levels = length levels ≤ n
 IsBehind n (Turn op items) levels = length levels ≤ n
 IsBehind n Passed levels = length levels < n
+IsBehind n Returned levels = length levels < n
 IsBehind n Empty levels = levels ≡ []
 
 behind_more : (n : ℕ) (next : Upcoming) (levels : List Level) → IsBehind n next levels → IsBehind (suc n) next levels
 behind_more n (Run place) levels h = omega arith
 behind_more n (Turn op items) levels h = omega arith
 behind_more n Passed levels h = omega arith
+behind_more n Returned levels h = omega arith
 behind_more n Empty levels h = h
 
 behind_after : (advance : Advance) (level : Level) (below : List Level) (further : Next) → IsPlaceOrTurn advance →
@@ -82,9 +90,11 @@ behind_after : (advance : Advance) (level : Level) (below : List Level) (further
     IsBehind (suc (length below)) (after advance level below further).next (after advance level below further).levels
 behind_after Ends level below further g h = behind_more (length below) further.next further.levels h
 behind_after Passes level below further g h = omega arith
+behind_after Returns level below further g h = omega arith
 behind_after (Gives (Run place)) level below further g h = omega arith
 behind_after (Gives (Turn op items)) level below further g h = omega arith
 behind_after (Gives Passed) level below further g h = absurd g
+behind_after (Gives Returned) level below further g h = absurd g
 behind_after (Gives Empty) level below further g h = absurd g
 
 behind_next : (levels : List Level) → IsBehind (length levels) (next_of levels).next (next_of levels).levels
@@ -103,6 +113,9 @@ lowers_next n s (Turn op items) levels h none room f = lowers_counted n (record 
     ((h.0, omega arith, h.2, h.3), none, omega arith) (λ t r more. lowers_turned n op items t (idle n t r))
 lowers_next n s Passed levels h none room f =
     lowers_pushes n (codes "stopped") (Truth false) (record s { levels = levels })
+    ((h.0, omega arith, h.2, h.3), none, omega arith)
+lowers_next n s Returned levels h none room f =
+    lowers_returned n s.frames (record s { levels = levels })
     ((h.0, omega arith, h.2, h.3), none, omega arith)
 lowers_next n s Empty levels h none room f =
     let few : length levels ≡ 0 = ap length f in

@@ -1,8 +1,7 @@
 -- What is executed leaves fewer steps, within the limits.
 use Rattle.std.specs.Prelude.{nat_lt, nat_le, codes}
 use Rattle.std.proofs.lemmas.Bool.{ltb-true, leb-true}
-use Rattle.std.proofs.Common.{◌≡◌, ℕ, suc, ◌+◌, ◌*◌, ◌≤◌, ◌<◌, true, List, [], ◌∷◌, length, Option, Some, None, arith}
-use Rattle.press_fault.specs.declared.names.PsName.{PsName}
+use Rattle.std.proofs.Common.{◌≡◌, ℕ, ◌+◌, true, List, ◌∷◌, length, Option, Some, None, arith}
 use Rattle.press_fault.specs.declared.names.PsName.TheVariants.{StackOverflow, Undefined, ExecStackOverflow}
 use Rattle.ps_store.specs.declared.obj.Obj.{Obj}
 use Rattle.ps_store.specs.declared.obj.Obj.TheVariants.{Bool as Truth, Name, Array, Oper as Operator}
@@ -21,88 +20,27 @@ use Rattle.ps_stack_ops.specs.Rows.{stack_row}
 use Rattle.ps_data_ops.specs.Rows.{DataState, data_row}
 use Rattle.ps_gfx_ops.specs.Scene.{GraphicsScene}
 use Rattle.ps_gfx_ops.specs.Rows.{gfx_row}
+use Rattle.ps_image_ops.specs.Rows.{image_row}
 use Rattle.ps_flow.specs.declared.level.Level.{Level}
 use Rattle.ps_flow.specs.declared.level.Level.TheVariants.{Procedure}
 use Rattle.ps_flow.specs.declared.pushes.Pushes.{Pushes}
 use Rattle.ps_flow.specs.declared.pushes.Pushes.TheVariants.{Nothing, One, Two}
 use Rattle.ps_flow.specs.Pushes.{with_pushes, number_of_pushes}
-use Rattle.ps_flow.specs.Levels.{is_stopped}
 use Rattle.ps_flow.specs.Course.{OperandsAndLevels}
 use Rattle.ps_flow.specs.Rows.{flow_row}
 use Rattle.ps_machine.specs.State.{BodyValue}
-use Rattle.ps_machine.specs.Errors.{StepOutcome, Goes, Caught, Lands, Falls, caught, after_caught, failed, pushes}
-use Rattle.ps_machine.specs.Errors.{counted}
+use Rattle.ps_machine.specs.State.{cut_back_to}
+use Rattle.ps_machine.specs.Errors.{Goes, failed}
 use Rattle.ps_machine.specs.Steps.{after_stack, work_of, after_data, after_gfx, after_flow, after_stop, operate_flow}
 use Rattle.ps_machine.specs.Steps.{operate, call, execute_value, execute, turned}
-use Rattle.ps_laws.proofs.Weight.{budget, Lowers, Idle, Ready, Free, idle_zero, idle, free}
+use Rattle.ps_laws.proofs.Weight.{Lowers, Idle, Ready, idle_zero, idle, free}
 use Rattle.ps_laws.proofs.Operands.{by_test}
 use Rattle.ps_laws.proofs.StackRows.{FewOfDesk, stack_few}
 use Rattle.ps_laws.proofs.DataRows.{DataFits, data_fits}
 use Rattle.ps_laws.proofs.FlowRows.{AllShrinks, StopFits, flow_shrinks, stop_fits}
+use Rattle.ps_laws.proofs.Failing.{lowers_failed, lowers_pushes, lowers_counted}
+use Rattle.ps_laws.proofs.ImageSteps.{lowers_image}
 use Rattle.ps_laws.proofs.GfxRows.{FewOfScene, gfx_few}
-
--- an error leaves at most so many levels
-abbrev CatchFits : ℕ → Caught → Type 0
-CatchFits n (Lands operands levels) = (length operands ≤ 500) × (length levels ≤ n)
-CatchFits n (Falls name command) = Unit {0}
-
-catch_more : (n : ℕ) (c : Caught) → CatchFits n c → CatchFits (suc n) c
-catch_more n (Lands operands levels) h = (h.0, omega arith)
-catch_more n (Falls name command) h = tt
-
-catch_fits : (levels : List Level) (name : PsName) (command : List ℕ) (operands : List Obj) →
-    CatchFits (length levels) (caught name command levels operands)
-catch_fits [] name command operands = tt
-catch_fits (level ∷ below) name command operands =
-    by_test (CatchFits (suc (length below))) (is_stopped level) _ (caught name command below operands)
-    (λ e. by_test (CatchFits (suc (length below))) (nat_lt (length operands) 500) (Lands (Truth true ∷ operands) below)
-    (caught StackOverflow (codes "stopped") below operands)
-    (λ f. let l = ltb-true (length operands) 500 f in (omega arith, omega arith))
-    (λ f. catch_more (length below) (caught StackOverflow (codes "stopped") below operands)
-    (catch_fits below StackOverflow (codes "stopped") operands)))
-    (λ e. catch_more (length below) (caught name command below operands) (catch_fits below name command operands))
-
-lowers_caught : (n : ℕ) (s : BodyValue) (c : Caught) → Idle n s → CatchFits (length s.levels) c →
-    Lowers n (after_caught s c)
-lowers_caught n s (Lands operands levels) h f = ((f.0, omega arith, h.0.2, h.0.3), omega arith)
-lowers_caught n s (Falls name command) h f = tt
-
--- an error leaves fewer steps, where nothing waits
-pub lowers_failed : (n : ℕ) (name : PsName) (command : List ℕ) (s : BodyValue) → Idle n s →
-    Lowers n (failed name command s)
-lowers_failed n name command s h = lowers_caught n s (caught name command s.levels s.operands) h
-    (catch_fits s.levels name command s.operands)
-
--- where no level is open, an error ends the program
-ends_caught : (n : ℕ) (name : PsName) (command : List ℕ) (s : BodyValue) (levels : List Level) → levels ≡ [] →
-    Lowers n (after_caught s (caught name command levels s.operands))
-ends_caught n name command s [] e = tt
-ends_caught n name command s (level ∷ below) e = absurd cc
-
--- where no level is open, an error ends the program
-pub ends_failed : (n : ℕ) (name : PsName) (command : List ℕ) (s : BodyValue) → s.levels ≡ [] →
-    Lowers n (failed name command s)
-ends_failed n name command s e = ends_caught n name command s s.levels e
-
--- a push leaves fewer steps, where nothing waits
-pub lowers_pushes : (n : ℕ) (command : List ℕ) (o : Obj) (s : BodyValue) → Idle n s → Lowers n (pushes command o s)
-lowers_pushes n command o s h = by_test (Lowers n) (nat_lt (length s.operands) 500)
-    (Goes (record s { operands = o ∷ s.operands })) (failed StackOverflow command s)
-    (λ e. let l = ltb-true (length s.operands) 500 e in
-    let w = idle_zero s.at_once (suc (length s.operands)) h.1 in
-    ((omega arith, h.0.1, h.0.2, h.0.3), omega arith))
-    (λ e. lowers_failed n StackOverflow command s h)
-
--- one object more is counted
-pub lowers_counted : (n : ℕ) (s : BodyValue) (go : BodyValue → StepOutcome) → Free n s →
-    ((t : BodyValue) → Ready n t → budget t + (2 + 2 * length t.operands) + length t.levels < n → Lowers n (go t)) →
-    Lowers n (counted s go)
-lowers_counted n s go h f = by_test (Lowers n) (nat_lt s.count 100000000) (go (record s { count = s.count + 1 })) _
-    (λ e. let l = ltb-true s.count 100000000 e in
-    let room : budget (record s { count = s.count + 1 }) + (2 + 2 * length s.operands) + length s.levels < n =
-    omega arith in
-    f (record s { count = s.count + 1 }) (h.0, h.1, omega arith) room)
-    (λ e. tt)
 
 lowers_stack : (n : ℕ) (outcome : Outcome OperandsAndStore) (command : List ℕ) (s : BodyValue) → Idle n s →
     FewOfDesk outcome → Lowers n (after_stack outcome command s)
@@ -131,7 +69,7 @@ lowers_stop : (n : ℕ) (outcome : Outcome (OperandsAndLevels × StoreValue)) (c
     Idle n s → StopFits (length s.levels) outcome → Lowers n (after_stop outcome command s)
 lowers_stop n (GoesOn course) command s h f =
     lowers_pushes n (codes "stopped") (Truth true)
-    (record s { operands = course.0.operands; store = course.1; levels = course.0.levels })
+    (record (cut_back_to course.0.levels s) { operands = course.0.operands; store = course.1 })
     ((f.0, omega arith, h.0.2, h.0.3), h.1, omega arith)
 lowers_stop n (Refuses name) command s h f = lowers_failed n name command s h
 
@@ -153,7 +91,8 @@ lowers_operate n (Gfx op) s h = lowers_gfx n (gfx_row op s.operands s.store s.gr
 lowers_operate n (Page Quit) s h = tt
 lowers_operate n (Page Showpage) s h = let w = idle_zero s.at_once (length s.operands) h.1 in (h.0, omega arith)
 lowers_operate n (Space op) s h = lowers_failed n Undefined (name_of (Space op)) s (idle n s h)
-lowers_operate n (Image op) s h = lowers_failed n Undefined (name_of (Image op)) s (idle n s h)
+lowers_operate n (Image op) s h = lowers_image n (image_row op s.operands s.store s.graphics) (name_of (Image op)) s
+    (idle n s h)
 lowers_operate n (Font op) s h = lowers_failed n Undefined (name_of (Font op)) s (idle n s h)
 
 lowers_call : (n : ℕ) (name : List ℕ) (level : Level) (s : BodyValue) → Ready n s → Lowers n (call name level s)

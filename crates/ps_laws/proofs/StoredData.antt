@@ -63,7 +63,8 @@ each_lookup m test [] h = tt
 each_lookup m test (e ∷ es) h = by_test (OfSome (IsOf m)) (test e.0) (Some e.1) (lookup test es) (λ f. h.0)
     (λ f. each_lookup m test es h.1)
 
-found_is : (s : StoreValue) (dict : ℕ) (key : Key) → Sound s → OfSome (IsOf (length s.made)) (found s dict key)
+-- the value of a key in a dictionary is of the store
+pub found_is : (s : StoreValue) (dict : ℕ) (key : Key) → Sound s → OfSome (IsOf (length s.made)) (found s dict key)
 found_is s dict key h = each_lookup (length s.made) (same_key key) (entries_of s dict) (entries_are s dict h)
 
 or_else_is : (m : ℕ) (o other : Option Obj) → OfSome (IsOf m) o → OfSome (IsOf m) other →

@@ -20,12 +20,13 @@ use Rattle.ps_store.specs.Gathering.{elements}
 use Rattle.ps_store.specs.Outcome.{Outcome, Goes, Refuses}
 use Rattle.ps_flow.specs.declared.counter.Counter.{Counter}
 use Rattle.ps_flow.specs.declared.level.Level.{Level}
-use Rattle.ps_flow.specs.declared.level.Level.TheVariants.{Procedure, Stopped, Loop, Repeat, For, Forall, ForallEntries}
+use Rattle.ps_flow.specs.declared.level.Level.TheVariants.{Procedure, Stopped, Guarded, Loop, Repeat, For, Forall}
+use Rattle.ps_flow.specs.declared.level.Level.TheVariants.{ForallEntries}
 use Rattle.ps_flow.specs.Binding.{operator_named, bound_to, bound, changed_items, changed_in, changed_made}
 use Rattle.ps_flow.specs.Binding.{changed_store, is_reached_place, bind_store}
 use Rattle.ps_store.specs.Numbers.{raw_of}
 use Rattle.ps_flow.specs.Counting.{counter_from}
-use Rattle.ps_flow.specs.Levels.{nothing_of, is_loop, is_stopped, below_loop, below_stopped}
+use Rattle.ps_flow.specs.Levels.{nothing_of, is_loop, is_stopped, holds_exit, below_loop, below_stopped}
 use Rattle.ps_flow.specs.Course.{OperandsAndLevels, opens, with_store, with_levels}
 use Rattle.ps_flow.specs.Rows.{exec_row, if_row, ifelse_row, for_from, for_row, repeat_row, loop_row, keys_and_values}
 use Rattle.ps_flow.specs.Rows.{forall_row, cut_back, stopped_row, bind_row, flow_row}
@@ -38,6 +39,7 @@ use Rattle.ps_laws.proofs.StoredData.{are_elements}
 pub level_more : (m n : ℕ) → m ≤ n → (level : Level) → IsLevelOf m level → IsLevelOf n level
 level_more m n le (Procedure rest) h = omega arith
 level_more m n le (Stopped rest) h = omega arith
+level_more m n le (Guarded rest) h = omega arith
 level_more m n le (Loop body rest) h = (omega arith, omega arith)
 level_more m n le (Repeat left body rest) h = (omega arith, omega arith)
 level_more m n le (For next limit body rest) h = (omega arith, omega arith)
@@ -155,7 +157,7 @@ of_below_loop : (m : ℕ) (ls : List Level) → Each (IsLevelOf m) ls → OfSome
 of_below_loop m [] h = tt
 of_below_loop m (level ∷ below) h = by_test (OfSome (Each (IsLevelOf m))) (is_loop level) (Some below) _ (λ e. h.1)
     (λ e.
-    by_test (OfSome (Each (IsLevelOf m))) (is_stopped level) None (below_loop below) (λ f. tt)
+    by_test (OfSome (Each (IsLevelOf m))) (holds_exit level) None (below_loop below) (λ f. tt)
     (λ f. of_below_loop m below h.1))
 
 of_below_stopped : (m : ℕ) (ls : List Level) → Each (IsLevelOf m) ls → OfSome (Each (IsLevelOf m)) (below_stopped ls)

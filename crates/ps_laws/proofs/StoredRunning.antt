@@ -8,9 +8,10 @@ use Rattle.ps_store.specs.Parts.{PartValue}
 use Rattle.ps_store.specs.Store.{element}
 use Rattle.ps_flow.specs.declared.pushes.Pushes.TheVariants.{Nothing}
 use Rattle.ps_flow.specs.declared.level.Level.{Level}
-use Rattle.ps_flow.specs.declared.level.Level.TheVariants.{Procedure, Stopped, Loop, Repeat, For, Forall, ForallEntries}
-use Rattle.ps_flow.specs.Levels.Upcoming.{Run, Turn, Passed, Empty}
-use Rattle.ps_flow.specs.Levels.Advance.{Ends, Passes, Gives}
+use Rattle.ps_flow.specs.declared.level.Level.TheVariants.{Procedure, Stopped, Guarded, Loop, Repeat, For, Forall}
+use Rattle.ps_flow.specs.declared.level.Level.TheVariants.{ForallEntries}
+use Rattle.ps_flow.specs.Levels.Upcoming.{Run, Turn, Passed, Returned, Empty}
+use Rattle.ps_flow.specs.Levels.Advance.{Ends, Passes, Returns, Gives}
 use Rattle.ps_flow.specs.Levels.{Upcoming, Advance, Given, running, begins, ends, Value, for_turn, for_given}
 use Rattle.ps_flow.specs.Levels.{forall_given, entries_given, given_of, behind, Next, after, next_of}
 use Rattle.ps_machine.specs.State.{BodyValue}
@@ -32,20 +33,23 @@ use Rattle.ps_flow.specs.Counting.{is_past, value_of, next_of_counter}
 use Rattle.ps_laws.specs.Stored.{Each, IsOf, IsPairOf, IsLevelOf, IsWaitingOf, IsStored, KeepsStored}
 use Rattle.ps_laws.proofs.Operands.{by_test}
 use Rattle.ps_laws.proofs.Each.{each_map, is_element}
-use Rattle.ps_laws.proofs.StoredSteps.{Stored, Keeps, PushesOf, keeps_pushes, keeps_counted, keeps_execute}
-use Rattle.ps_laws.proofs.StoredSteps.{keeps_turned}
+use Rattle.ps_laws.proofs.StoredFailing.{Stored, Keeps, keeps_pushes, keeps_counted}
+use Rattle.ps_laws.proofs.StoredImages.{keeps_returned}
+use Rattle.ps_laws.proofs.StoredSteps.{PushesOf, keeps_execute, keeps_turned}
 use Rattle.ps_laws.proofs.StoredTokens.{keeps_read}
 
 abbrev NextOf : ℕ → Upcoming → Type 0
 NextOf m (Run place) = Unit {0}
 NextOf m (Turn op items) = PushesOf m items
 NextOf m Passed = Unit {0}
+NextOf m Returned = Unit {0}
 NextOf m Empty = Unit {0}
 
 abbrev AdvanceOf : ℕ → Advance → Type 0
 AdvanceOf m (Gives next) = NextOf m next
 AdvanceOf m Ends = Unit {0}
 AdvanceOf m Passes = Unit {0}
+AdvanceOf m Returns = Unit {0}
 
 abbrev GivenOf : ℕ → Given → Type 0
 GivenOf m given = AdvanceOf m given.gives × IsLevelOf m given.level
@@ -83,6 +87,7 @@ of_pairs m ((key, value) ∷ left) body rest h f g = (h.0, (h.1, f, f))
 of_level : (m : ℕ) (level : Level) → IsLevelOf m level → GivenOf m (given_of level)
 of_level m (Procedure rest) h = of_running m rest Procedure (ends (Procedure rest)) h (tt, h)
 of_level m (Stopped rest) h = of_running m rest Stopped (record { gives = Passes; level = Stopped rest }) h (tt, h)
+of_level m (Guarded rest) h = of_running m rest Guarded (record { gives = Returns; level = Guarded rest }) h (tt, h)
 of_level m (Loop body rest) h = of_running m rest (Loop body) (begins LoopOp Nothing (Loop body body)) h
     (tt, (h.0, h.0))
 of_level m (Repeat left body rest) h = of_running m rest (Repeat left body) _ h
@@ -103,6 +108,7 @@ of_after : (m : ℕ) (advance : Advance) (level : Level) (below : List Level) (f
     IsLevelOf m level → Each (IsLevelOf m) below → BehindOf m further → BehindOf m (after advance level below further)
 of_after m Ends level below further a f h k = k
 of_after m Passes level below further a f h k = (tt, h)
+of_after m Returns level below further a f h k = (tt, h)
 of_after m (Gives next) level below further a f h k = (a, (f, h))
 
 of_next : (m : ℕ) (levels : List Level) → Each (IsLevelOf m) levels → BehindOf m (next_of levels)
@@ -117,21 +123,22 @@ keeps_go (Run place) s f h = keeps_counted s (λ t. execute (element t.store pla
 keeps_go (Turn op items) s f h = keeps_counted s (turned op items) h
     (λ t k e. keeps_turned op items t (subst (λ (w : StoreValue). PushesOf (length w.made) items) (sym e) f) k)
 keeps_go Passed s f h = keeps_pushes (codes "stopped") (Truth false) s tt h
+keeps_go Returned s f h = keeps_returned s.frames s h.6 h
 keeps_go Empty s f h = keeps_read s h
 
 keeps_at : (s : BodyValue) (at_once : Option Obj) → IsWaitingOf (length s.store.made) at_once → Stored s →
     Keeps (step_at at_once s)
-keeps_at s (Some o) w h = keeps_execute o (record s { at_once = None }) w (h.0, h.1, h.2, h.3, tt, h.5)
+keeps_at s (Some o) w h = keeps_execute o (record s { at_once = None }) w (h.0, h.1, h.2, h.3, tt, h.5, h.6)
 keeps_at s None w h = let g = of_next (length s.store.made) s.levels h.3 in
     keeps_go (next_of s.levels).next (record s { levels = (next_of s.levels).levels }) g.0
-    (h.0, h.1, h.2, g.1, h.4, h.5)
+    (h.0, h.1, h.2, g.1, h.4, h.5, h.6)
 
 keeps_step : (s : BodyValue) → Stored s → Keeps (step s)
 unfolding step
 keeps_step s h = keeps_at s s.at_once h.4 h
 
 stored : (s : BodyValue) → IsStored s → Stored s
-stored s h = ((h.composites, h.standard), h.operands, h.dicts, h.levels, h.at_once, h.unclosed)
+stored s h = ((h.composites, h.standard), h.operands, h.dicts, h.levels, h.at_once, h.unclosed, h.frames)
 
 is_stored : (s : BodyValue) → Stored s → IsStored s
 is_stored s h = record {
@@ -143,6 +150,7 @@ is_stored s h = record {
   at_once =
       h.4;
   unclosed = h.5;
+  frames = h.6;
 }
 
 kept_after : (next : StepOutcome) → Keeps next → KeepsStored next
@@ -167,6 +175,7 @@ opening_stored text setup = record {
   levels = tt;
   at_once = tt;
   unclosed = tt;
+  frames = tt;
 }
 
 reached_from : (first s : BodyValue) → IsStored first → IsReached first s → IsStored s

@@ -1,7 +1,6 @@
 -- What is executed leaves what is of the store.
 use Rattle.std.specs.Prelude.{nat_lt, nat_le, codes}
-use Rattle.std.proofs.Common.{refl, ◌≡◌, ℕ, ◌+◌, ◌≤◌, ◌<◌, true, List, [], ◌∷◌, length, Option, Some, None, arith}
-use Rattle.press_fault.specs.declared.names.PsName.{PsName}
+use Rattle.std.proofs.Common.{ℕ, ◌+◌, true, List, ◌∷◌, length, Option, Some, None, arith}
 use Rattle.press_fault.specs.declared.names.PsName.TheVariants.{StackOverflow, Undefined, ExecStackOverflow}
 use Rattle.ps_store.specs.declared.obj.Obj.{Obj}
 use Rattle.ps_store.specs.declared.obj.Obj.TheVariants.{Bool as Truth, Name, Array, Oper as Operator}
@@ -20,119 +19,57 @@ use Rattle.ps_stack_ops.specs.Rows.{stack_row}
 use Rattle.ps_data_ops.specs.Rows.{DataState, data_row}
 use Rattle.ps_gfx_ops.specs.Scene.{GraphicsScene}
 use Rattle.ps_gfx_ops.specs.Rows.{gfx_row}
+use Rattle.ps_image_ops.specs.Rows.{image_row}
 use Rattle.ps_flow.specs.declared.level.Level.{Level}
 use Rattle.ps_flow.specs.declared.level.Level.TheVariants.{Procedure}
 use Rattle.ps_flow.specs.declared.pushes.Pushes.{Pushes}
 use Rattle.ps_flow.specs.declared.pushes.Pushes.TheVariants.{Nothing, One, Two}
 use Rattle.ps_flow.specs.Pushes.{with_pushes, number_of_pushes}
-use Rattle.ps_flow.specs.Levels.{is_stopped}
 use Rattle.ps_flow.specs.Course.{OperandsAndLevels}
 use Rattle.ps_flow.specs.Rows.{flow_row}
 use Rattle.ps_machine.specs.State.{BodyValue}
-use Rattle.ps_machine.specs.Errors.{StepOutcome, Goes, Shows, Ends, Caught, Lands, Falls, caught, after_caught, failed}
-use Rattle.ps_machine.specs.Errors.{pushes, counted}
+use Rattle.ps_machine.specs.State.{cut_back_to}
+use Rattle.ps_machine.specs.Errors.{Goes, failed}
 use Rattle.ps_machine.specs.Steps.{after_stack, work_of, after_data, after_gfx, after_flow, after_stop, operate_flow}
 use Rattle.ps_machine.specs.Steps.{operate, call, execute_value, execute, turned}
-use Rattle.ps_laws.specs.Stored.{Each, IsOf, IsLevelOf, IsWaitingOf}
+use Rattle.ps_laws.specs.Stored.{Each, IsOf, IsLevelOf}
 use Rattle.ps_laws.proofs.Operands.{by_test}
-use Rattle.ps_laws.proofs.Each.{Sound, Grown, OfSome, each_weaker, is_more, are_more}
+use Rattle.ps_laws.proofs.Each.{OfSome}
 use Rattle.ps_laws.proofs.StoredStack.{DeskOf, stack_of}
-use Rattle.ps_laws.proofs.StoredData.{DataOf, below_more, find_is, data_of}
-use Rattle.ps_laws.proofs.StoredFlow.{FlowOf, levels_more, flow_of}
+use Rattle.ps_laws.proofs.StoredData.{DataOf, find_is, data_of}
+use Rattle.ps_laws.proofs.StoredFlow.{FlowOf, flow_of}
 use Rattle.ps_laws.proofs.StoredGfx.{SceneOf, gfx_of}
-
--- all that a state holds is of its store
-abbrev pub Stored : BodyValue → Type 0
-Stored s = Sound s.store × Each (IsOf (length s.store.made)) s.operands ×
-    Each (λ (d : ℕ). d < length s.store.made) s.dicts
-    × Each (IsLevelOf (length s.store.made)) s.levels × IsWaitingOf (length s.store.made) s.at_once ×
-    Each (Each (IsOf (length s.store.made))) s.unclosed
-
--- all that a state after a step holds is of its store, where the program goes on
-abbrev pub Keeps : StepOutcome → Type 0
-Keeps (Goes s) = Stored s
-Keeps (Shows page s) = Stored s
-Keeps (Ends end) = Unit {0}
-
-waiting_more : (m n : ℕ) → m ≤ n → (o : Option Obj) → IsWaitingOf m o → IsWaitingOf n o
-waiting_more m n le (Some o) h = is_more m n le o h
-waiting_more m n le None h = tt
-
--- with a later store
-pub stored_grown : (s : BodyValue) (t : StoreValue) → Stored s → Grown (length s.store.made) t →
-    Stored (record s { store = t })
-stored_grown s t h g = (
-  g.0,
-  are_more (length s.store.made) (length t.made) g.1 s.operands h.1,
-  below_more (length s.store.made) (length t.made) g.1 s.dicts h.2,
-  levels_more (length s.store.made) (length t.made) g.1 s.levels h.3,
-  waiting_more (length s.store.made) (length t.made) g.1 s.at_once h.4,
-  each_weaker (Each (IsOf (length s.store.made))) (Each (IsOf (length t.made)))
-      (are_more (length s.store.made) (length t.made) g.1) s.unclosed h.5,
-)
-
-abbrev CatchOf : ℕ → Caught → Type 0
-CatchOf m (Lands operands levels) = Each (IsOf m) operands × Each (IsLevelOf m) levels
-CatchOf m (Falls name command) = Unit {0}
-
-catch_of : (m : ℕ) (levels : List Level) (name : PsName) (command : List ℕ) (operands : List Obj) →
-    Each (IsOf m) operands → Each (IsLevelOf m) levels → CatchOf m (caught name command levels operands)
-catch_of m [] name command operands h g = tt
-catch_of m (level ∷ below) name command operands h g =
-    by_test (CatchOf m) (is_stopped level) _ (caught name command below operands)
-    (λ e. by_test (CatchOf m) (nat_lt (length operands) 500) (Lands (Truth true ∷ operands) below)
-    (caught StackOverflow (codes "stopped") below operands)
-    (λ f. ((tt, h), g.1)) (λ f. catch_of m below StackOverflow (codes "stopped") operands h g.1))
-    (λ e. catch_of m below name command operands h g.1)
-
-keeps_caught : (s : BodyValue) (c : Caught) → Stored s → CatchOf (length s.store.made) c → Keeps (after_caught s c)
-keeps_caught s (Lands operands levels) h f = (h.0, f.0, h.2, f.1, tt, h.5)
-keeps_caught s (Falls name command) h f = tt
-
--- an error leaves what is of the store
-pub keeps_failed : (name : PsName) (command : List ℕ) (s : BodyValue) → Stored s → Keeps (failed name command s)
-keeps_failed name command s h = keeps_caught s (caught name command s.levels s.operands) h
-    (catch_of (length s.store.made) s.levels name command s.operands h.1 h.3)
-
--- a push of an object of the store leaves what is of the store
-pub keeps_pushes : (command : List ℕ) (o : Obj) (s : BodyValue) → IsOf (length s.store.made) o → Stored s →
-    Keeps (pushes command o s)
-keeps_pushes command o s f h = by_test Keeps (nat_lt (length s.operands) 500)
-    (Goes (record s { operands = o ∷ s.operands })) (failed StackOverflow command s)
-    (λ e. (h.0, (f, h.1), h.2, h.3, h.4, h.5)) (λ e. keeps_failed StackOverflow command s h)
-
--- what is counted and then done leaves what is of the store
-pub keeps_counted : (s : BodyValue) (go : BodyValue → StepOutcome) → Stored s →
-    ((t : BodyValue) → Stored t → t.store ≡ s.store → Keeps (go t)) → Keeps (counted s go)
-keeps_counted s go h f = by_test Keeps (nat_lt s.count 100000000) (go (record s { count = s.count + 1 })) _
-    (λ e. f (record s { count = s.count + 1 }) h refl) (λ e. tt)
+use Rattle.ps_laws.proofs.StoredFailing.{Stored, Keeps, stored_grown, of_frames, keeps_failed, keeps_pushes}
+use Rattle.ps_laws.proofs.StoredFailing.{keeps_counted}
+use Rattle.ps_laws.proofs.StoredImages.{image_of, keeps_image}
 
 keeps_stack : (outcome : Outcome OperandsAndStore) (command : List ℕ) (s : BodyValue) → Stored s →
     DeskOf (length s.store.made) outcome → Keeps (after_stack outcome command s)
-keeps_stack (GoesOn desk) command s h k = let g = stored_grown s desk.store h k.0 in (g.0, k.1, g.2, g.3, g.4, g.5)
+keeps_stack (GoesOn desk) command s h k = let g = stored_grown s desk.store h k.0 in (g.0, k.1, g.2, g.3, g.4, g.5, g.6)
 keeps_stack (Refuses name) command s h k = keeps_failed name command s h
 
 keeps_data : (outcome : Outcome DataState) (command : List ℕ) (s : BodyValue) → Stored s →
     DataOf (length s.store.made) outcome → Keeps (after_data outcome command s)
-keeps_data (GoesOn work) command s h k = let g = stored_grown s work.store h k.0 in (g.0, k.1, k.2, g.3, g.4, g.5)
+keeps_data (GoesOn work) command s h k = let g = stored_grown s work.store h k.0 in (g.0, k.1, k.2, g.3, g.4, g.5, g.6)
 keeps_data (Refuses name) command s h k = keeps_failed name command s h
 
 keeps_gfx : (outcome : Outcome GraphicsScene) (command : List ℕ) (s : BodyValue) → Stored s →
     SceneOf (length s.store.made) outcome → Keeps (after_gfx outcome command s)
-keeps_gfx (GoesOn scene) command s h k = let g = stored_grown s scene.store h k.0 in (g.0, k.1, g.2, g.3, g.4, g.5)
+keeps_gfx (GoesOn scene) command s h k = let g = stored_grown s scene.store h k.0 in (g.0, k.1, g.2, g.3, g.4, g.5, g.6)
 keeps_gfx (Refuses name) command s h k = keeps_failed name command s h
 
 keeps_flow : (outcome : Outcome (OperandsAndLevels × StoreValue)) (command : List ℕ) (s : BodyValue) → Stored s →
     FlowOf (length s.store.made) outcome → Keeps (after_flow outcome command s)
-keeps_flow (GoesOn course) command s h k = let g = stored_grown s course.1 h k.0 in (g.0, k.1.0, g.2, k.1.1, k.1.2, g.5)
+keeps_flow (GoesOn course) command s h k = let g = stored_grown s course.1 h k.0 in
+    (g.0, k.1.0, g.2, k.1.1, k.1.2, g.5, g.6)
 keeps_flow (Refuses name) command s h k = keeps_failed name command s h
 
 keeps_stop : (outcome : Outcome (OperandsAndLevels × StoreValue)) (command : List ℕ) (s : BodyValue) → Stored s →
     FlowOf (length s.store.made) outcome → Keeps (after_stop outcome command s)
 keeps_stop (GoesOn course) command s h k = let g = stored_grown s course.1 h k.0 in
     keeps_pushes (codes "stopped") (Truth true)
-    (record s { operands = course.0.operands; store = course.1; levels = course.0.levels }) tt
-    (g.0, k.1.0, g.2, k.1.1, g.4, g.5)
+    (record (cut_back_to course.0.levels s) { operands = course.0.operands; store = course.1 }) tt
+    (g.0, k.1.0, g.2, k.1.1, g.4, g.5, of_frames (length course.1.made) course.0.levels s.frames g.6)
 keeps_stop (Refuses name) command s h k = keeps_failed name command s h
 
 keeps_operate_flow : (op : FlowOp) (s : BodyValue) → Stored s → Keeps (operate_flow op s)
@@ -153,14 +90,15 @@ keeps_operate (Gfx op) s h = keeps_gfx (gfx_row op s.operands s.store s.graphics
 keeps_operate (Page Quit) s h = tt
 keeps_operate (Page Showpage) s h = h
 keeps_operate (Space op) s h = keeps_failed Undefined (name_of (Space op)) s h
-keeps_operate (Image op) s h = keeps_failed Undefined (name_of (Image op)) s h
+keeps_operate (Image op) s h = keeps_image (image_row op s.operands s.store s.graphics) (name_of (Image op)) s
+    (image_of op s.operands s.store s.graphics h.0 h.1) h
 keeps_operate (Font op) s h = keeps_failed Undefined (name_of (Font op)) s h
 
 keeps_call : (name : List ℕ) (level : Level) (s : BodyValue) → IsLevelOf (length s.store.made) level → Stored s →
     Keeps (call name level s)
 keeps_call name level s f h = by_test Keeps (nat_lt (length s.levels) 250)
     (Goes (record s { levels = level ∷ s.levels })) (failed ExecStackOverflow name s)
-    (λ e. (h.0, h.1, h.2, (f, h.3), h.4, h.5)) (λ e. keeps_failed ExecStackOverflow name s h)
+    (λ e. (h.0, h.1, h.2, (f, h.3), h.4, h.5, h.6)) (λ e. keeps_failed ExecStackOverflow name s h)
 
 keeps_value : (name : List ℕ) (value : Option Obj) (s : BodyValue) → OfSome (IsOf (length s.store.made)) value →
     Stored s → Keeps (execute_value name value s)
@@ -169,7 +107,7 @@ keeps_value name (Some (Array p true)) s f h = keeps_call name (Procedure p) s f
 keeps_value name (Some (Operator op)) s f h = keeps_operate op s h
 keeps_value name (Some (Name value true)) s f h =
     keeps_counted s (λ t. Goes (record t { at_once = Some (Name value true) })) h
-    (λ t k e. (k.0, k.1, k.2, k.3, tt, k.5))
+    (λ t k e. (k.0, k.1, k.2, k.3, tt, k.5, k.6))
 keeps_value name (Some o) s f h = keeps_pushes (codes "push") o s f h
 keeps_value name None s f h = keeps_failed Undefined name s h
 
@@ -198,5 +136,5 @@ pub keeps_turned : (op : FlowOp) (items : Pushes) (s : BodyValue) → PushesOf (
     Keeps (turned op items s)
 keeps_turned op items s f h = by_test Keeps (nat_le (length s.operands + number_of_pushes items) 500)
     (Goes (record s { operands = with_pushes items s.operands })) (failed StackOverflow (flow_name_of op) s)
-    (λ e. (h.0, with_of (length s.store.made) items s.operands f h.1, h.2, h.3, h.4, h.5))
+    (λ e. (h.0, with_of (length s.store.made) items s.operands f h.1, h.2, h.3, h.4, h.5, h.6))
     (λ e. keeps_failed StackOverflow (flow_name_of op) s h)

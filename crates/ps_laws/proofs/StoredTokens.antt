@@ -25,7 +25,8 @@ use Rattle.ps_laws.specs.Stored.{Each, IsOf}
 use Rattle.ps_laws.proofs.Operands.{by_test}
 use Rattle.ps_laws.proofs.Each.{OfSome, Made, each_append, made_text_of, made_array_of}
 use Rattle.ps_laws.proofs.StoredData.{find_is}
-use Rattle.ps_laws.proofs.StoredSteps.{Stored, Keeps, stored_grown, keeps_failed, keeps_counted, keeps_execute}
+use Rattle.ps_laws.proofs.StoredFailing.{Stored, Keeps, stored_grown, keeps_failed, keeps_counted}
+use Rattle.ps_laws.proofs.StoredSteps.{keeps_execute}
 
 element_of : (m : ℕ) (elements : List Obj) (o : Obj) → IsOf m o → Each (IsOf m) elements →
     Each (IsOf m) (with_element elements o)
@@ -37,7 +38,7 @@ keeps_met : (o : Obj) (unclosed : List (List Obj)) (s : BodyValue) → IsOf (len
 keeps_met o [] s f u h = keeps_counted s (execute o) h
     (λ t k e. keeps_execute o t (subst (λ (w : StoreValue). IsOf (length w.made) o) (sym e) f) k)
 keeps_met o (elements ∷ outer) s f u h =
-    (h.0, h.1, h.2, h.3, h.4, (element_of (length s.store.made) elements o f u.0, u.1))
+    (h.0, h.1, h.2, h.3, h.4, (element_of (length s.store.made) elements o f u.0, u.1), h.6)
 
 keeps_unmade : (unclosed : List (List Obj)) (s : BodyValue) → Stored s → Keeps (unmade unclosed s)
 keeps_unmade [] s h = by_test Keeps (nat_lt (length s.operands) 500) (failed LimitCheck (codes "scan") s)
@@ -61,7 +62,7 @@ keeps_closed : (unclosed : List (List Obj)) (s : BodyValue) → Each (Each (IsOf
     Stored s → Keeps (closed unclosed s)
 keeps_closed [] s u h = keeps_failed SyntaxError (codes "scan") s h
 keeps_closed (elements ∷ outer) s u h = keeps_procedure (with_array_of s.store elements) (record s { unclosed = outer })
-    (made_array_of s.store elements h.0 u.0) (h.0, h.1, h.2, h.3, h.4, u.1)
+    (made_array_of s.store elements h.0 u.0) (h.0, h.1, h.2, h.3, h.4, u.1, h.6)
 
 keeps_met_value : (name : List ℕ) (value : Option Obj) (s : BodyValue) → OfSome (IsOf (length s.store.made)) value →
     Stored s → Keeps (met_value name value s)
@@ -77,7 +78,7 @@ keeps_token (Exec name) s h = keeps_met (Name name true) s.unclosed s tt h.5 h
 keeps_token (Now name) s h = keeps_met_value name (find_key s.store s.dicts (Named name)) s
     (find_is s.store s.dicts (Named name) h.0) h
 keeps_token (Text bytes) s h = keeps_string (with_text_of s.store bytes) s (made_text_of s.store bytes h.0) h
-keeps_token Open s h = (h.0, h.1, h.2, h.3, h.4, (tt, h.5))
+keeps_token Open s h = (h.0, h.1, h.2, h.3, h.4, (tt, h.5), h.6)
 keeps_token Close s h = keeps_closed s.unclosed s h.5 h
 keeps_token End s h = tt
 

@@ -22,7 +22,8 @@ use Rattle.ps_machine.specs.Reading.{met, unmade, met_string, met_procedure, clo
 use Rattle.ps_machine.specs.Reading.{read}
 use Rattle.ps_laws.proofs.Weight.{budget, Limits, Lowers, Idle, idle_zero}
 use Rattle.ps_laws.proofs.Operands.{by_test}
-use Rattle.ps_laws.proofs.Steps.{lowers_failed, ends_failed, lowers_counted, lowers_execute}
+use Rattle.ps_laws.proofs.Failing.{lowers_failed, ends_failed, lowers_counted}
+use Rattle.ps_laws.proofs.Steps.{lowers_execute}
 
 -- no object waits, and there are steps for a byte more
 abbrev pub Rich : ℕ → BodyValue → Type 0

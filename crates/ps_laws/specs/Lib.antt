@@ -2,3 +2,4 @@ pub mod Limits
 pub mod Reached
 pub mod Ending
 pub mod Stored
+pub mod Frames

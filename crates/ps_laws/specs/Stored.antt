@@ -7,7 +7,10 @@ use Rattle.ps_store.specs.declared.obj.Obj.TheVariants.{Text, Array, Dict}
 use Rattle.ps_store.specs.declared.store.Composite.{Composite}
 use Rattle.ps_store.specs.declared.store.Composite.TheVariants.{Text as TextOf, Array as ArrayOf, Dict as DictOf}
 use Rattle.ps_flow.specs.declared.level.Level.{Level}
-use Rattle.ps_flow.specs.declared.level.Level.TheVariants.{Procedure, Stopped, Loop, Repeat, For, Forall, ForallEntries}
+use Rattle.ps_flow.specs.declared.level.Level.TheVariants.{Procedure, Stopped, Guarded, Loop, Repeat, For, Forall}
+use Rattle.ps_flow.specs.declared.level.Level.TheVariants.{ForallEntries}
+use Rattle.ps_machine.specs.declared.frames.Frame.{Frame}
+use Rattle.ps_machine.specs.declared.frames.Frame.TheVariants.{Image}
 use Rattle.ps_machine.specs.State.{BodyValue}
 use Rattle.ps_machine.specs.Errors.{StepOutcome, Goes, Shows, Ends}
 
@@ -37,11 +40,16 @@ HoldsOf m (DictOf entries) = Each (λ e. IsOf m e.1) entries
 abbrev pub IsLevelOf : ℕ → Level → Type 0
 IsLevelOf m (Procedure rest) = rest.id < m
 IsLevelOf m (Stopped rest) = rest.id < m
+IsLevelOf m (Guarded rest) = rest.id < m
 IsLevelOf m (Loop body rest) = (body.id < m) × (rest.id < m)
 IsLevelOf m (Repeat left body rest) = (body.id < m) × (rest.id < m)
 IsLevelOf m (For next limit body rest) = (body.id < m) × (rest.id < m)
 IsLevelOf m (Forall left body rest) = Each (IsOf m) left × (body.id < m) × (rest.id < m)
 IsLevelOf m (ForallEntries left body rest) = Each (IsPairOf m) left × (body.id < m) × (rest.id < m)
+
+-- the same of the procedure that an operator waits for, and calls again
+abbrev pub IsFrameOf : ℕ → Frame → Type 0
+IsFrameOf m (Image p reading) = p.id < m
 
 -- the same of an object to be executed at once, if there is one
 abbrev pub IsWaitingOf : ℕ → Option Obj → Type 0
@@ -58,6 +66,7 @@ pub record IsStored (s : BodyValue) : Type 0 where
   pub levels : Each (IsLevelOf (length s.store.made)) s.levels
   pub at_once : IsWaitingOf (length s.store.made) s.at_once
   pub unclosed : Each (Each (IsOf (length s.store.made))) s.unclosed
+  pub frames : Each (IsFrameOf (length s.store.made)) s.frames
 
 -- all that a state after a step holds is of its store, where the program goes on
 abbrev pub KeepsStored : StepOutcome → Type 0

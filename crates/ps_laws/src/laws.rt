@@ -10,6 +10,7 @@ ghost use Rattle.ps_laws.specs.Limits.{IsLimited, KeepsLimits};
 ghost use Rattle.ps_laws.specs.Reached.{IsReached};
 ghost use Rattle.ps_laws.specs.Ending.{EndsWithin};
 ghost use Rattle.ps_laws.specs.Stored.{IsStored, KeepsStored};
+ghost use Rattle.ps_laws.specs.Frames.{IsFramed, KeepsFrames};
 
 /// A program starts within the limits of the operands, the levels and the dictionary stack.
 pub fn limits_at_start()
@@ -54,8 +55,26 @@ pub fn stored_kept()
 
 /// So no program ever comes to a state that holds a number of a composite which its store lacks: on the
 /// operands, in the composites themselves, on the dictionary stack, in the levels, in the object that is to be
-/// executed at once, or in the procedures of the text that aren't closed yet.
+/// executed at once, in the procedures of the text that aren't closed yet, or in those that an operator waits for.
 pub fn stored_when_reached()
     ensures { (text : List ℕ) (setup : SetupValue) (s : BodyValue) →
         IsReached (opening opening_store text setup) s → IsStored s }
+{}
+
+/// A program starts without guarded procedures, and no operator waits for one.
+pub fn frames_at_start()
+    ensures { (store : StoreValue) (text : List ℕ) (setup : SetupValue) → IsFramed (opening store text setup) }
+{}
+
+/// Each step keeps it that as many operators wait as guarded procedures are among the levels: the end of such a
+/// procedure, an error and `stop` take a level and its frame away together.
+pub fn frames_kept()
+    ensures { (s : BodyValue) → IsFramed s → KeepsFrames (step s) }
+{}
+
+/// So in each state that a program comes to the machine has as many frames as guarded levels: where a procedure ends
+/// that an operator called there is an operator to go on, and without such a procedure none is left.
+pub fn frames_when_reached()
+    ensures { (store : StoreValue) (text : List ℕ) (setup : SetupValue) (s : BodyValue) →
+        IsReached (opening store text setup) s → IsFramed s }
 {}
