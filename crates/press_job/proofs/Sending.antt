@@ -15,3 +15,10 @@ front_of_send (Err _) old new piece sent is ok err = (
   err.2
       ∙ ap (λ p. with_piece old (take err.0 p)) is,
 )
+
+-- where no write failed it appends all of it
+pub all_of_send : {A B : Type 0} {Failed : Type 0} (answer : Result A B) (old new : Option (List ℕ))
+    (piece sent : List ℕ) → sent ≡ piece → OnOk answer (new ≡ with_piece old sent) → OnErr answer Failed → ¬ Failed
+    → new ≡ with_piece old piece
+all_of_send (Ok _) old new piece sent is ok err fine = ok ∙ ap (with_piece old) is
+all_of_send (Err _) old new piece sent is ok err fine = absurd (fine err)
