@@ -1,6 +1,6 @@
 -- A dot with samples of 16 bits has each byte of the one with samples of 8 bits twice.
-use Rattle.std.proofs.Common.{◌≡◌, ◌*◌, ◌/◌, ◌%◌, ◌<◌, ◌∙◌, ap, sym, refl, ℕ, List, [], ◌∷◌, map, reverse, Option}
-use Rattle.std.proofs.Common.{None, Some, arith}
+use Rattle.std.proofs.Common.{◌≡◌, ◌*◌, ◌/◌, ◌%◌, ◌<◌, ◌∙◌, ◌++◌, ap, sym, refl, ℕ, List, [], ◌∷◌, map, reverse}
+use Rattle.std.proofs.Common.{Option, None, Some, slice_index, suc, arith}
 use Rattle.std.specs.Option.{option_map_or}
 use Rattle.std.specs.List.{find, flat_map}
 use Rattle.page_model.specs.declared.mark.Ink.{Ink}
@@ -33,7 +33,7 @@ painting_wide row col (Pictured image) =
 painting_wide row col (Masked image ink) = ink_wide ink
 
 -- the values of a dot at 16 bits are those at 8 bits times 257
-dot_wide : (marks : List MarkValue) (row col : ℕ) → dot_rgb Sixteen no_tint marks row col
+pub dot_wide : (marks : List MarkValue) (row col : ℕ) → dot_rgb Sixteen no_tint marks row col
     ≡ map (λ value. value * 257) (dot_rgb Eight no_tint marks row col)
 unfolding dot_rgb
 dot_wide marks row col =
@@ -47,10 +47,10 @@ two_same value h =
     let low : value * 257 % 256 ≡ value = omega (arith, h) in
     rw (high, low) refl
 
--- the bytes of a dot at 16 bits, by those at 8 bits
-pub wide_bytes : (marks : List MarkValue) (row col red green blue : ℕ) → red < 256 → green < 256 → blue < 256
-    → red ∷ green ∷ blue ∷ [] ≡ dot_rgb Eight no_tint marks row col
-    → red ∷ red ∷ green ∷ green ∷ blue ∷ blue ∷ [] ≡ dot_bytes Sixteen (dot_rgb Sixteen no_tint marks row col)
-wide_bytes marks row col red green blue r g b is =
-    sym (ap (flat_map two_bytes) (dot_wide marks row col ∙ ap (map (λ value. value * 257)) (sym is))
-    ∙ rw (two_same red r, two_same green g, two_same blue b) refl)
+-- bytes twice are values times 257 in two bytes each
+pub doubles : (dot : List ℕ) → ((k : ℕ) → slice_index dot k < 256)
+    → flat_map (λ value. value ∷ value ∷ []) dot ≡ flat_map two_bytes (map (λ value. value * 257) dot)
+doubles [] h = refl
+doubles (value ∷ rest) h =
+    ap (λ xs. xs ++ flat_map (λ v. v ∷ v ∷ []) rest) (sym (two_same value (h 0)))
+    ∙ ap (λ xs. two_bytes (value * 257) ++ xs) (doubles rest (λ k. h (suc k)))

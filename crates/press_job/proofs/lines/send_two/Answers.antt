@@ -3,4 +3,4 @@ use Rattle.press_job.proofs.lines.send_two.Goals as goal
 
 pub returns-in-Ok-clause-err : goal.returns-in-Ok-clause-err
 returns-in-Ok-clause-err g c = err_of_second _ _ _ _ c.args.first.now c.args.second.now c.in-Ok.ensures.ok
-    c.send-2.ensures.err
+    c.send-in-Ok.ensures.err
