@@ -1,6 +1,6 @@
 -- A dot with samples of 16 bits has each byte of the one with samples of 8 bits twice.
 use Rattle.std.proofs.Common.{◌≡◌, ◌*◌, ◌/◌, ◌%◌, ◌<◌, ◌∙◌, ◌++◌, ap, sym, refl, ℕ, List, [], ◌∷◌, map, reverse}
-use Rattle.std.proofs.Common.{Option, None, Some, slice_index, suc, arith}
+use Rattle.std.proofs.Common.{Option, None, Some, slice_index_or, length, arith}
 use Rattle.std.specs.Option.{option_map_or}
 use Rattle.std.specs.List.{find, flat_map}
 use Rattle.page_model.specs.declared.mark.Ink.{Ink}
@@ -47,10 +47,20 @@ two_same value h =
     let low : value * 257 % 256 ≡ value = omega (arith, h) in
     rw (high, low) refl
 
--- bytes twice are values times 257 in two bytes each
-pub doubles : (dot : List ℕ) → ((k : ℕ) → slice_index dot k < 256)
-    → flat_map (λ value. value ∷ value ∷ []) dot ≡ flat_map two_bytes (map (λ value. value * 257) dot)
-doubles [] h = refl
-doubles (value ∷ rest) h =
-    ap (λ xs. xs ++ flat_map (λ v. v ∷ v ∷ []) rest) (sym (two_same value (h 0)))
-    ∙ ap (λ xs. two_bytes (value * 257) ++ xs) (doubles rest (λ k. h (suc k)))
+-- the bytes of three values times 257
+pub three_same : (red green blue : ℕ) → red < 256 → green < 256 → blue < 256
+    → red ∷ red ∷ green ∷ green ∷ blue ∷ blue ∷ []
+    ≡ flat_map two_bytes (map (λ value. value * 257) (red ∷ green ∷ blue ∷ []))
+three_same red green blue r g b =
+    sym (ap (λ xs. xs ++ (two_bytes (green * 257) ++ (two_bytes (blue * 257) ++ []))) (two_same red r)
+    ∙ (ap (λ xs. red ∷ red ∷ (xs ++ (two_bytes (blue * 257) ++ []))) (two_same green g)
+    ∙ ap (λ xs. red ∷ red ∷ green ∷ green ∷ (xs ++ [])) (two_same blue b)))
+
+-- three values are their list
+pub three_of : (xs : List ℕ) → length xs ≡ 3
+    → slice_index_or xs 0 0 ∷ slice_index_or xs 1 0 ∷ slice_index_or xs 2 0 ∷ [] ≡ xs
+three_of [] h = absurd (omega (arith, h))
+three_of (a ∷ []) h = absurd (omega (arith, h))
+three_of (a ∷ b ∷ []) h = absurd (omega (arith, h))
+three_of (a ∷ b ∷ c ∷ []) h = refl
+three_of (a ∷ b ∷ c ∷ d ∷ rest) h = absurd (omega (arith, h))

@@ -158,8 +158,7 @@ fn settled<'a>(reading: &Reading<'a>) -> Result<Options<'a>, WordsFault>
     let Some((program, words)) = program_in(
         reading.chosen.sample.is_some(),
         reading.positionals.as_slice(),
-    )
-    else {
+    ) else {
         return Err(WordsFault::Usage);
     };
     let Some(page) = page_chosen(&reading.chosen) else {

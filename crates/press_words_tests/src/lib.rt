@@ -111,7 +111,11 @@ fn each_option_has_its_value(rt: HostRuntime) -> Result<(), Fail> {
         (options.gray, options.rgb, options.program),
         (Some("g"), None, Some("p.ps"))
     );
-    let named = options.named.as_slice().first().map(|named| (named.name, named.file));
+    let named = options
+        .named
+        .as_slice()
+        .first()
+        .map(|named| (named.name, named.file));
     assert_eq!(rt; (named, options.named.len()), (Some(("n", "f")), 1));
     Ok(())
 }
