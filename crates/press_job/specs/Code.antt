@@ -1,3 +1,4 @@
 pub mod Seen
 pub mod Painted
+pub mod Taken
 pub mod Turn

@@ -1,14 +1,23 @@
-//! The line on standard error that goes with a status.
-ghost use Rattle.std.specs.Prelude.{◌≡◌, ◌≤◌, ◌+◌, ◌++◌, [], map, length, codes, unwrap_or, slice_get};
+//! The lines on standard error: that of a status, and behind it those that are asked for.
+ghost use Rattle.std.specs.Prelude.{◌≡◌, ◌≤◌, ◌+◌, ◌++◌, ℕ, List, Some, [], map, length, codes, unwrap_or, slice_get};
+ghost use Rattle.std.specs.Prelude.{OnOk, OnErr, if◌then◌else◌};
 ghost use Rattle.std.specs.Fmt.{decimal};
 ghost use Rattle.press_fault.specs.Names.{text_of};
-ghost use Rattle.press_ports.specs.Causes.{Rose, with_piece, WritesFront};
-ghost use Rattle.press_job.specs.Lines.{line_of, which_text, printable};
+ghost use Rattle.press_ports.specs.Causes.{Rose, with_piece, WritesFront, WritesProperFront};
+ghost use Rattle.press_job.specs.Asked.{is_sample};
+ghost use Rattle.press_job.specs.Code.Seen.{seen, seen_source};
+ghost use Rattle.press_job.specs.Code.Taken.{HasTaken};
+ghost use Rattle.press_job.specs.Lines.{line_of, which_text, printable, report_part, stands_alone, asked_lines};
+ghost use Rattle.press_job.specs.Lines.{lines_of};
 
+use crate::asking::Asked;
+use crate::running::Ending;
+use crate::tally::Tally;
 use arrayvec::ArrayVec;
 use itoa::Buffer;
 use press_fault::{Name, PsName, Status, Which};
-use press_ports::{Sink, send};
+use press_ports::{Sink, WriteFault, send};
+use press_words::{Counts, Line, report_line};
 use std::marker::Model;
 
 /// A line of at most 512 bytes, held in itself.
@@ -178,4 +187,119 @@ pub fn tell<E: Sink>(err: &mut E, status: &Status, names: &[Name])
 {
     let line = status_line(status, names);
     let _ = send(err, line.bytes());
+}
+
+/// The lines behind that of the status, each where there is one.
+#[derive(Drop)]
+struct Behind {
+    report: Option<Line>,
+    sample: Option<Line>,
+}
+
+/// Writes the lines of a run whose tally took in what its sink took: that of the status, and those that are asked for.
+/// Where a write fails the rest of them is dropped.
+pub(crate) fn tell_run<E: Sink>(err: &mut E, asked: &Asked<'_>, ending: &Ending, tally: Tally)
+    ensures front { (taken : List ℕ) → HasTaken (is_sample (seen_source asked.now.source)) tally taken
+        → WritesFront (E.written err.old) (E.written err.new)
+        (lines_of (Some (seen asked.now)) ending.now.status ending.now.shown taken) }
+    ensures all { (taken : List ℕ) → HasTaken (is_sample (seen_source asked.now.source)) tally taken
+        → (Rose (E.faults err.old) (E.faults err.new) → ⊥) → E.written err.new ≡ with_piece (E.written err.old)
+        (lines_of (Some (seen asked.now)) ending.now.status ending.now.shown taken) }
+    ensures later { E.faults err.old ≤ E.faults err.new }
+{
+    let line = status_line(&ending.status, &[]);
+    let behind = lines_behind(asked, ending, tally);
+    let _ = send_three(
+        err,
+        line.bytes(),
+        bytes_of(&behind.report),
+        bytes_of(&behind.sample),
+    );
+}
+
+/// The lines that are asked for; none where that of the status stands alone.
+fn lines_behind(asked: &Asked<'_>, ending: &Ending, tally: Tally) -> Behind
+    ensures { (taken : List ℕ) → HasTaken (is_sample (seen_source asked.now.source)) tally taken
+        → unwrap_or result.report [] ++ unwrap_or result.sample []
+        ≡ (if stands_alone ending.now.status then [] else asked_lines (seen asked.now) ending.now.shown taken) }
+{
+    if stands_alone(&ending.status) {
+        return Behind {
+            report: None,
+            sample: None,
+        };
+    }
+    Behind {
+        report: report_part(asked.report, ending.shown),
+        sample: tally.line(&asked.source),
+    }
+}
+
+/// Whether the line of a status stands alone: out of memory it does.
+fn stands_alone(status: &Status) -> bool
+    ensures { result ≡ stands_alone status.now }
+{
+    matches!(status, Status::NoMemory)
+}
+
+/// The report line, where it is asked for. No profile is used yet, so there are no links to count.
+fn report_part(is_asked: bool, shown: u64) -> Option<Line>
+    ensures { unwrap_or result [] ≡ report_part is_asked shown }
+{
+    if !is_asked {
+        return None;
+    }
+    Some(report_line(&Counts {
+        pages: shown,
+        leases: 0,
+        keys: 0,
+        built: 0,
+        evicted: 0,
+        resident: 0,
+        stale: 0,
+    }))
+}
+
+/// The bytes of a line, none where there is no line.
+fn bytes_of(line: &Option<Line>) -> &[u8]
+    ensures { result.now ≡ unwrap_or line.now [] }
+{
+    match line {
+        Some(line) => line.bytes(),
+        None => b"",
+    }
+}
+
+/// Sends three pieces, one after another, up to a write that fails.
+fn send_three<E: Sink>(
+    err: &mut E,
+    first: &[u8],
+    second: &[u8],
+    third: &[u8],
+) -> Result<(), WriteFault>
+    ensures ok { OnOk result (E.written err.new
+        ≡ with_piece (E.written err.old) (first.now ++ (second.now ++ third.now))) }
+    ensures err { OnErr result (WritesProperFront (E.written err.old) (E.written err.new)
+        (first.now ++ (second.now ++ third.now))) }
+    ensures failed { OnErr result (Rose (E.faults err.old) (E.faults err.new)) }
+    ensures later { E.faults err.old ≤ E.faults err.new }
+{
+    match send(err, first) {
+        Err(WriteFault) => Err(WriteFault),
+        Ok(()) => send_two(err, second, third),
+    }
+}
+
+/// Sends one piece, and then another.
+fn send_two<E: Sink>(err: &mut E, first: &[u8], second: &[u8]) -> Result<(), WriteFault>
+    ensures ok { OnOk result (E.written err.new ≡ with_piece (E.written err.old) (first.now ++ second.now)) }
+    ensures err { OnErr result (WritesProperFront (E.written err.old) (E.written err.new)
+        (first.now ++ second.now)) }
+    ensures failed { OnErr result (Rose (E.faults err.old) (E.faults err.new)) }
+    ensures later { E.faults err.old ≤ E.faults err.new }
+{
+    match send(err, first) {
+        Err(WriteFault) => Err(WriteFault),
+        Ok(()) => send(err, second),
+    }
 }

@@ -167,3 +167,48 @@ fn a_failing_line_changes_no_answer(rt: HostRuntime) -> Result<(), Fail> {
     }
     Ok(())
 }
+
+/// The number of the status of a run of a sample page of one dot, into a sink with room for so many bytes, and whether
+/// these are its lines.
+fn sampled(alloc: Global, room: usize, lines: &str) -> Result<(u8, bool), Fail> {
+    let mut words = Words::new(alloc);
+    for word in ["--sample", "7", "--size=1x1"] {
+        words.push(word)?;
+    }
+    let mut shelf = shelf(alloc, "")?;
+    let limits = Limits {
+        room,
+        step: 4,
+        failing: None,
+    };
+    let mut out = sink(alloc, &limits)?;
+    let mut err = sink(alloc, &AMPLE)?;
+    let report = press_one(alloc, &words, &mut shelf, &mut out, &mut err);
+    Ok((report.status.number(), err.bytes() == lines.as_bytes()))
+}
+
+#[test]
+fn a_sample_page_tells_of_the_bytes_that_were_taken(rt: HostRuntime) -> Result<(), Fail> {
+    // The digests are those of the first bytes of a page of one white dot.
+    let cases = [
+        (
+            0,
+            4,
+            "render: cannot write output\nrender: sample 7 bytes 0 md5 d41d8cd98f00b204e9800998ecf8427e\n",
+        ),
+        (
+            5,
+            4,
+            "render: cannot write output\nrender: sample 7 bytes 5 md5 8af7506f2c8fe1b93b3774f5afdeaa03\n",
+        ),
+        (
+            14,
+            0,
+            "render: sample 7 bytes 14 md5 cc2afbc1ea39bf4863af18eff3ce4bed\n",
+        ),
+    ];
+    for (room, number, lines) in cases {
+        assert_eq!(rt; sampled(rt.alloc(), room, lines)?, (number, true), "{room}");
+    }
+    Ok(())
+}

@@ -1,7 +1,8 @@
 -- The words of the command line, one after the other. Own rule: an option is `--x v` or `--x=v`; in the first form v
--- is a dash alone or doesn't begin with a dash. `--` ends the options, and a word that is a dash alone is none.
-use Rattle.std.specs.Prelude.{ℕ, ◌==◌, Bool, true, not, List, [], ◌∷◌, ◌++◌, Option, Some, None}
-use Rattle.std.specs.Prelude.{if◌then◌else◌, codes}
+-- is a dash alone or doesn't begin with a dash. `--` ends the options, and a word that is a dash alone is none. There
+-- are at most 17 positional words.
+use Rattle.std.specs.Prelude.{ℕ, ◌==◌, Bool, true, not, List, [], ◌∷◌, ◌++◌, length, Option, Some, None}
+use Rattle.std.specs.Prelude.{nat_lt, if◌then◌else◌, codes}
 use Rattle.std.specs.List.{fold}
 use Rattle.std.specs.Str.{bytes_eq}
 use Rattle.press_words.specs.declared.choosing.Choice.{Choice}
@@ -43,9 +44,10 @@ pub record ReadingValue : Type 0 where
   pub positionals : List (List ℕ)
   pub next : Next
 
--- one more positional word
-abbrev pub with_positional : List ℕ → ReadingValue → ReadingValue
-with_positional word r = record r { positionals = r.positionals ++ word ∷ [] }
+-- one more positional word, where there is room for it: a program and 16 profiles
+abbrev pub with_positional : List ℕ → ReadingValue → Option ReadingValue
+with_positional word r =
+    if nat_lt (length r.positionals) 17 then Some (record r { positionals = r.positionals ++ word ∷ [] }) else None
 
 -- an option has its value, or the flag was set, and any word may come next
 abbrev pub chose : ReadingValue → Option ChoicesValue → Option ReadingValue
@@ -65,7 +67,7 @@ with_option (Some choice) (Some value) r = chose r (chosen_with choice value r.c
 
 -- a word where any may come
 abbrev pub with_form : FormValue → List ℕ → ReadingValue → Option ReadingValue
-with_form Bare word r = Some (with_positional word r)
+with_form Bare word r = with_positional word r
 with_form Ender word r = Some (record r { next = Positional })
 with_form (Named name) word r = with_option (option_of name) None r
 with_form (Given name value) word r = with_option (option_of name) (Some value) r
@@ -78,7 +80,7 @@ with_value choice word r = if is_bare word then chose r (chosen_with choice word
 abbrev pub with_word : Next → List ℕ → ReadingValue → Option ReadingValue
 with_word Any word r = with_form (form_of word) word r
 with_word (ValueOf choice) word r = with_value choice word r
-with_word Positional word r = Some (with_positional word r)
+with_word Positional word r = with_positional word r
 
 -- one more word; none where the words aren't in the grammar
 abbrev pub read_word : ReadingValue → List ℕ → Option ReadingValue

@@ -1,5 +1,5 @@
 //! What the words of the command line ask for.
-ghost use Rattle.std.specs.Prelude.{◌≡◌, ◌≤◌, ◌*◌, Some, None, IfOk, [], ◌∷◌, ◌++◌, map};
+ghost use Rattle.std.specs.Prelude.{◌≡◌, ◌≤◌, ◌<◌, ◌*◌, Some, None, IfOk, IsSome, [], ◌∷◌, ◌++◌, length, map};
 ghost use Rattle.std.specs.Option.{option_map};
 ghost use Rattle.press_words.specs.Values.{named_file_of};
 ghost use Rattle.press_words.specs.Grammar.{read};
@@ -12,8 +12,8 @@ ghost use Rattle.press_words.specs.Code.Seen.{text_in, seen_file, chosen_so_far,
 use crate::choosing::Choices;
 use crate::lexing::{at_equals, file, is_name};
 use crate::reading::{Next, Reading};
+use arrayvec::ArrayVec;
 use press_ports::Words;
-use std::alloc::{AllocError, AllocFailed, Global};
 use std::marker::Model;
 
 /// Why no options were read.
@@ -21,28 +21,6 @@ use std::marker::Model;
 pub enum WordsFault {
     /// The words aren't in the grammar.
     Usage,
-    /// Memory ran out.
-    NoMemory,
-}
-
-impl From<AllocError> for WordsFault {
-    ghost use Rattle.press_words.specs.declared.options.WordsFault.TheVariants.{NoMemory};
-
-    ghost from_gives = { λ _ e. e ≡ NoMemory };
-
-    fn from(_error: AllocError) -> WordsFault {
-        WordsFault::NoMemory
-    }
-}
-
-impl<T: Drop> From<AllocFailed<T>> for WordsFault {
-    ghost use Rattle.press_words.specs.declared.options.WordsFault.TheVariants.{NoMemory};
-
-    ghost from_gives = { λ _ e. e ≡ NoMemory };
-
-    fn from(_error: AllocFailed<T>) -> WordsFault {
-        WordsFault::NoMemory
-    }
 }
 
 /// A page in dots, with the dots of an inch. A side has 1 to 16,384 dots and the page at most 67,108,864; there are 1
@@ -68,7 +46,7 @@ impl Model for PageSize {
 }
 
 /// A named profile: its name, by which a program asks for it, and its file.
-#[derive(Clone, Copy, Debug, PartialEq, Eq)]
+#[derive(Clone, Copy, Debug, Default, PartialEq, Eq)]
 pub struct NamedFile<'a> {
     pub name: &'a str,
     pub file: &'a str,
@@ -106,7 +84,7 @@ pub struct Options<'a> {
     /// The number of the schedule of a rehearsal.
     pub rehearse: Option<u32>,
     /// The named profiles in the order of the words, at most 16, with distinct names.
-    pub named: Vec<NamedFile<'a>>,
+    pub named: ArrayVec<NamedFile<'a>, 16>,
     /// The bits of a sample of the page, 8 or 16.
     pub depth: u8,
 }
@@ -145,25 +123,24 @@ const SIZE: (u32, u32) = (612, 792);
 const RES: u32 = 72;
 
 impl<'a> Options<'a> {
-    /// What the words ask for. `Usage` comes exactly where the words aren't in the grammar, unless memory ran out
-    /// before.
+    /// What the words ask for. `Usage` comes exactly where the words aren't in the grammar. No memory is taken.
     #[tactic(auto, unfolding(crate::specs::Options::options_of))]
-    pub fn read(alloc: Global, words: &'a Words) -> Result<Options<'a>, WordsFault>
+    pub fn read(words: &'a Words) -> Result<Options<'a>, WordsFault>
         ensures ok { IfOk result (λ options. options_of words.now ≡ Some options) }
         ensures usage { result ≡ Err WordsFault.Usage → options_of words.now ≡ None }
     {
-        let reading = read_all(alloc, words)?;
-        settled(alloc, &reading)
+        let reading = read_all(words)?;
+        settled(&reading)
     }
 }
 
 /// What is read of all words.
 #[tactic(auto, unfolding(crate::specs::Grammar::read))]
-fn read_all<'a>(alloc: Global, words: &'a Words) -> Result<Reading<'a>, WordsFault>
+fn read_all<'a>(words: &'a Words) -> Result<Reading<'a>, WordsFault>
     ensures ok { IfOk result (λ reading. read words.now ≡ Some reading) }
     ensures usage { result ≡ Err WordsFault.Usage → read words.now ≡ None }
 {
-    let mut reading = Reading::new(alloc);
+    let mut reading = Reading::new();
     for word in words.items() {
         reading.read_word(word.as_str())?;
     }
@@ -171,21 +148,23 @@ fn read_all<'a>(alloc: Global, words: &'a Words) -> Result<Reading<'a>, WordsFau
 }
 
 /// What words that were read ask for.
-fn settled<'a>(alloc: Global, reading: &Reading<'a>) -> Result<Options<'a>, WordsFault>
+fn settled<'a>(reading: &Reading<'a>) -> Result<Options<'a>, WordsFault>
     ensures ok { IfOk result (λ options. settled reading.now ≡ Some options) }
     ensures usage { result ≡ Err WordsFault.Usage → settled reading.now ≡ None }
 {
     if !is_complete(reading.next) {
         return Err(WordsFault::Usage);
     }
-    let Some((program, words)) = program_in(reading.chosen.sample.is_some(), &reading.positionals)
-    else {
+    let Some((program, words)) = program_in(
+        reading.chosen.sample.is_some(),
+        reading.positionals.as_slice(),
+    ) else {
         return Err(WordsFault::Usage);
     };
     let Some(page) = page_chosen(&reading.chosen) else {
         return Err(WordsFault::Usage);
     };
-    let named = named_in(alloc, words)?;
+    let named = named_in(words)?;
     Ok(options_with(&reading.chosen, page, program, named))
 }
 
@@ -259,24 +238,25 @@ fn page_within(width: u32, height: u32, res: u32) -> Option<PageSize>
 
 /// The named profiles of these words.
 #[tactic(auto, unfolding(crate::specs::Options::named_in))]
-fn named_in<'a>(alloc: Global, words: &[&'a str]) -> Result<Vec<NamedFile<'a>>, WordsFault>
+fn named_in<'a>(words: &[&'a str]) -> Result<ArrayVec<NamedFile<'a>, 16>, WordsFault>
     ensures ok { IfOk result (λ named. named_in (map (λ word. word.now) words.now) ≡ Some (map seen_file named.items)) }
     ensures usage { result ≡ Err WordsFault.Usage → named_in (map (λ word. word.now) words.now) ≡ None }
 {
-    let mut named = Vec::new(alloc);
+    let mut named = ArrayVec::new();
     for word in words {
-        let Some(file) = named_after(&named, word) else {
+        let Some(file) = named_after(named.as_slice(), word) else {
             return Err(WordsFault::Usage);
         };
-        named.push(file)?;
+        named.push(file);
     }
     Ok(named)
 }
 
 /// The named profile of a word, where there is room for it and its name is new.
 fn named_after<'a>(named: &[NamedFile<'_>], word: &'a str) -> Option<NamedFile<'a>>
-    ensures { option_map (λ file. map seen_file named.now ++ seen_file file ∷ []) result
+    ensures value { option_map (λ file. map seen_file named.now ++ seen_file file ∷ []) result
         ≡ name_next (Some (map seen_file named.now)) word.now }
+    ensures room { IsSome result → length named.now < 16 }
 {
     let file = named_file(word)?;
     if named.len() < 16 && !is_taken(named, file.name) {
@@ -322,7 +302,7 @@ fn options_with<'a>(
     chosen: &Choices<'a>,
     page: PageSize,
     program: Option<&'a str>,
-    named: Vec<NamedFile<'a>>,
+    named: ArrayVec<NamedFile<'a>, 16>,
 ) -> Options<'a>
     ensures { result ≡ options_with (chosen_so_far chosen.now) page (text_in program.entry)
         (map seen_file named.entry.items) }

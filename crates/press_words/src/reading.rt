@@ -1,13 +1,14 @@
 //! The words, one after the other.
 ghost use Rattle.std.specs.Prelude.{◌≡◌, ◌≢◌, Some, None, OnOk, IfOk, IfSome};
 ghost use Rattle.std.specs.Option.{option_map};
-ghost use Rattle.press_words.specs.Grammar.{is_bare, form_of, read_word, with_form, with_option, chose, no_words};
+ghost use Rattle.press_words.specs.Grammar.{is_bare, form_of, read_word, with_positional, with_form, with_option};
+ghost use Rattle.press_words.specs.Grammar.{chose, no_words};
 ghost use Rattle.press_words.specs.Code.Seen.{seen_form, chosen_so_far, AreInRange};
 
 use crate::choosing::{Choice, Choices, option_of};
 use crate::lexing::at_equals;
 use crate::options::WordsFault;
-use std::alloc::Global;
+use arrayvec::ArrayVec;
 use std::marker::Model;
 
 /// What may come next.
@@ -38,7 +39,7 @@ enum Form<'a> {
 #[derive(Drop)]
 pub(crate) struct Reading<'a> {
     pub(crate) chosen: Choices<'a>,
-    pub(crate) positionals: Vec<&'a str>,
+    pub(crate) positionals: ArrayVec<&'a str, 17>,
     pub(crate) next: Next,
 }
 
@@ -86,12 +87,12 @@ fn form_of(word: &str) -> Form<'_>
 
 impl<'a> Reading<'a> {
     /// Nothing is read yet.
-    pub(crate) fn new(alloc: Global) -> Reading<'a>
+    pub(crate) fn new() -> Reading<'a>
         ensures { result ≡ no_words }
     {
         Reading {
             chosen: Choices::none(),
-            positionals: Vec::new(alloc),
+            positionals: ArrayVec::new(),
             next: Next::Any,
         }
     }
@@ -110,7 +111,7 @@ impl<'a> Reading<'a> {
                     Err(WordsFault::Usage)
                 }
             }
-            Next::Positional => Ok(self.positionals.push(word)?),
+            Next::Positional => self.add_positional(word),
         }
     }
 
@@ -120,13 +121,24 @@ impl<'a> Reading<'a> {
         ensures usage { result ≡ Err WordsFault.Usage → with_form (seen_form form.entry) word.now self.old ≡ None }
     {
         match form {
-            Form::Bare => Ok(self.positionals.push(word)?),
+            Form::Bare => self.add_positional(word),
             Form::Ender => {
                 self.next = Next::Positional;
                 Ok(())
             }
             Form::Named(name) => self.name_option(option_of(name)),
             Form::Given(name, value) => self.give_option(option_of(name), value),
+        }
+    }
+
+    /// One more positional word, where there is room for it.
+    fn add_positional(&mut self, word: &'a str) -> Result<(), WordsFault>
+        ensures ok { OnOk result (with_positional word.now self.old ≡ Some self.new) }
+        ensures usage { result ≡ Err WordsFault.Usage → with_positional word.now self.old ≡ None }
+    {
+        match self.positionals.try_push(word) {
+            Ok(()) => Ok(()),
+            Err(_) => Err(WordsFault::Usage),
         }
     }
 

@@ -19,7 +19,7 @@ fn words(alloc: Global, line: &str) -> Result<Words, Fail> {
 /// The width of the page in dots that the words of a line ask for.
 fn width(alloc: Global, line: &str) -> Result<Result<u32, WordsFault>, Fail> {
     let words = words(alloc, line)?;
-    Ok(Options::read(alloc, &words).map(|options| options.page.width))
+    Ok(Options::read(&words).map(|options| options.page.width))
 }
 
 #[test]
@@ -91,7 +91,7 @@ fn each_option_has_its_value(rt: HostRuntime) -> Result<(), Fail> {
         rt.alloc(),
         "--res 144 --band 3 --workers 0 --cache 64 --intent 2 --depth 016 --rehearse 7 --gray g p.ps n=f",
     )?;
-    let options = Options::read(rt.alloc(), &words).ok();
+    let options = Options::read(&words).ok();
     let Some(options) = options else {
         return Err(Fail::new("refused"));
     };
@@ -111,7 +111,11 @@ fn each_option_has_its_value(rt: HostRuntime) -> Result<(), Fail> {
         (options.gray, options.rgb, options.program),
         (Some("g"), None, Some("p.ps"))
     );
-    let named = options.named.first().map(|named| (named.name, named.file));
+    let named = options
+        .named
+        .as_slice()
+        .first()
+        .map(|named| (named.name, named.file));
     assert_eq!(rt; (named, options.named.len()), (Some(("n", "f")), 1));
     Ok(())
 }

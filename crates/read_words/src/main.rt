@@ -77,10 +77,9 @@ fn print_options(rt: &HostRuntime, options: &Options<'_>) -> io::Result<()> {
 /// Reads the words, and prints what they ask for.
 fn print_words(rt: &HostRuntime) -> io::Result<()> {
     let words = words_of(rt)?;
-    match Options::read(rt.alloc(), &words) {
+    match Options::read(&words) {
         Ok(options) => print_options(rt, &options),
         Err(WordsFault::Usage) => println!(rt; "usage"),
-        Err(WordsFault::NoMemory) => Err(no_memory()),
     }
 }
 

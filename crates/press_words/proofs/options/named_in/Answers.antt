@@ -12,8 +12,8 @@ loop-word-preserved c =
     let d : Bor (List ℕ) = record { ref_ptr = (0, 0); now = [] } in
     let i = c.loop-word.word-index in
     let here = mapped_here (λ (w : Bor (List ℕ)). w.now) c.args.words.now i d c.loop-word-test.true in
-    let step = named_more c.loop-word.named.items c.deref.result.now _ _ (get_or c.args.words.now i d).now
-    c.deref.ensures.value c.in-Some.ensures c.in_ok-push.ensures.items in
+    let step = named_more c.loop-word.named.items c.as_slice.result.now _ _ (get_or c.args.words.now i d).now
+    c.as_slice.ensures.value c.in-Some.ensures.value c.push.ensures.items in
     reads_more name_next (Some []) _ _ _ i _ here c.loop-word.invariant step
 
 pub returns-in_default-clause-usage : goal.returns-in_default-clause-usage
@@ -23,5 +23,5 @@ returns-in_default-clause-usage c = λ _.
     let i = c.loop-word.word-index in
     let here = mapped_here (λ (w : Bor (List ℕ)). w.now) c.args.words.now i d c.loop-word-test.true in
     let step = subst (λ (xs : List NamedFile). None ≡ name_next (Some (map seen_file xs))
-    (get_or c.args.words.now i d).now) c.deref.ensures.value c.in_default.ensures in
+    (get_or c.args.words.now i d).now) c.as_slice.ensures.value c.in_default.ensures.value in
     stops_there name_next (λ _. refl) (Some []) _ _ i _ here c.loop-word.invariant (sym step)
