@@ -2,7 +2,7 @@
 """Compares what the program `profile` makes of profiles with the model.
 
 `compare_profiles.py PROFILE`: three small profiles with each byte changed to 0, 1, 7F, 80 and FF,
-cut to each shorter length, the head of a fourth changed likewise, and a few more, all in one run of the program PROFILE. A difference is
+cut to each shorter length, the head of a fourth changed likewise, and a few more, 1,000 in one run of the program PROFILE. A difference is
 printed; the last line is 'N passed, M failed'.
 """
 
@@ -17,6 +17,8 @@ from profiles import GRAY, LUT, MATRIX, SHORT_LUT, Profile
 
 SPACES = {1: "GRAY", 3: "RGB", 4: "CMYK"}
 NAMES = ("A2B0", "A2B1", "A2B2", "B2A0", "B2A1", "B2A2")
+# How many files one run is given: their names fit beside a stack of 512 KiB, which bounds the words of a program too.
+FILES = 1000
 MATRIX_TAGS = ("rXYZ", "gXYZ", "bXYZ", "rTRC", "gTRC", "bTRC")
 
 
@@ -99,10 +101,13 @@ def said(name, data):
 
 def answers(program, names, folder):
     """What the program says of each file: lines by its name, a fault without its words."""
-    done = subprocess.run([program, "--values", *names], cwd=folder, capture_output=True, text=True,
-                          timeout=600)
+    lines = []
+    for at in range(0, len(names), FILES):
+        done = subprocess.run([program, "--values", *names[at:at + FILES]], cwd=folder, capture_output=True,
+                              text=True, timeout=600)
+        lines += done.stdout.splitlines()
     found, last = {}, None
-    for line in done.stdout.splitlines():
+    for line in lines:
         if not line.startswith("  "):
             last = found.setdefault(line.split(":")[0], [])
             head, comma, _ = line.partition(",")
