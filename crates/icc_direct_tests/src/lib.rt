@@ -1,5 +1,6 @@
 //! Colours through whole profiles, and lattices of four channels, at values worked out by another
-//! reading of the definitions: `tests/model/direct_colours.py` prints these tables.
+//! reading of the definitions: `tests/model/direct_colours.py` prints these tables. Their profiles
+//! stand in `profiles.rt`, for the tests of crates above too.
 #![tactic(auto)]
 
 #[cfg(test)]
@@ -8,5 +9,4 @@ mod lattices;
 mod luts;
 #[cfg(test)]
 mod matrices;
-#[cfg(test)]
-mod profiles;
+pub mod profiles;

@@ -11,10 +11,10 @@ use press_fault::{Code, Mem};
 use std::alloc::Global;
 
 /// The red, the green and the blue column of sRGB, adapted to D50, in 1/65536.
-pub(crate) const SRGB: [i32; 9] = [28579, 14582, 913, 25236, 46981, 6364, 9377, 3973, 46804];
+pub const SRGB: [i32; 9] = [28579, 14582, 913, 25236, 46981, 6364, 9377, 3973, 46804];
 
 /// The same of Adobe RGB (1998).
-pub(crate) const ADOBE: [i32; 9] = [39960, 20389, 1276, 13453, 41004, 3989, 9777, 4143, 48796];
+pub const ADOBE: [i32; 9] = [39960, 20389, 1276, 13453, 41004, 3989, 9777, 4143, 48796];
 
 /// Columns with which X, Y and Z themselves are the values of red, green and blue, a half of each.
 const XYZ: [i32; 9] = [131070, 0, 0, 0, 131070, 0, 0, 0, 131070];
@@ -33,7 +33,7 @@ fn product(place: u16, factor: u16, most: u16) -> u16
 
 /// The products of so many places and a factor, modulo one more than `most`.
 #[tactic(auto, using(crate::proofs::Most::pushed))]
-pub(crate) fn products(alloc: Global, count: u16, factor: u16, most: u16) -> Mem<Values>
+pub fn products(alloc: Global, count: u16, factor: u16, most: u16) -> Mem<Values>
     ensures count { IfOk result (λ values. length values ≡ count) }
     ensures most { IfOk result (AreAtMost most) }
 {
@@ -90,7 +90,7 @@ fn top_of(wide: bool) -> u16
 
 /// A lut whose values are products of their places and a factor. Its lattice has `nodes` values, and
 /// each table has `entries`.
-pub(crate) fn lut(
+pub fn lut(
     alloc: Global,
     wide: bool,
     inputs: u8,
@@ -128,30 +128,30 @@ fn nothing(alloc: Global) -> Mem<SharedBytes> {
 }
 
 /// RGB by a matrix of these columns.
-pub(crate) fn of_matrix(alloc: Global, columns: [i32; 9], curves: [Curve; 3]) -> Mem<Profile> {
+pub fn of_matrix(alloc: Global, columns: [i32; 9], curves: [Curve; 3]) -> Mem<Profile> {
     let base = Some(Base::Matrix { columns, curves });
     Ok(Profile::of_parts(nothing(alloc)?, false, 3, base, NONE, NONE))
 }
 
 /// RGB by a matrix, with the values themselves as linear ones.
-pub(crate) fn of_columns(alloc: Global, columns: [i32; 9]) -> Mem<Profile> {
+pub fn of_columns(alloc: Global, columns: [i32; 9]) -> Mem<Profile> {
     let curves = [Curve::identity(), Curve::identity(), Curve::identity()];
     of_matrix(alloc, columns, curves)
 }
 
 /// A target whose values are X, Y and Z.
-pub(crate) fn of_xyz(alloc: Global) -> Mem<Profile> {
+pub fn of_xyz(alloc: Global) -> Mem<Profile> {
     of_columns(alloc, XYZ)
 }
 
 /// Gray by a curve.
-pub(crate) fn of_gray(alloc: Global, lab: bool, curve: Curve) -> Mem<Profile> {
+pub fn of_gray(alloc: Global, lab: bool, curve: Curve) -> Mem<Profile> {
     let base = Some(Base::Gray { curve });
     Ok(Profile::of_parts(nothing(alloc)?, lab, 1, base, NONE, NONE))
 }
 
 /// A source with a lut.
-pub(crate) fn reader(alloc: Global, lab: bool, lut: Lut) -> Mem<Profile>
+pub fn reader(alloc: Global, lab: bool, lut: Lut) -> Mem<Profile>
     requires { lut.wide ≡ false → lab ≡ true }
 {
     let channels = lut.inputs;
@@ -160,7 +160,7 @@ pub(crate) fn reader(alloc: Global, lab: bool, lut: Lut) -> Mem<Profile>
 }
 
 /// A source with a lut for perceptual and one for relative rendering.
-pub(crate) fn reader_of_two(alloc: Global, perceptual: Lut, relative: Lut) -> Mem<Profile>
+pub fn reader_of_two(alloc: Global, perceptual: Lut, relative: Lut) -> Mem<Profile>
     requires perceptual { perceptual.inputs ≡ 3 }
     requires relative { relative.inputs ≡ 3 }
 {
@@ -173,7 +173,7 @@ pub(crate) fn reader_of_two(alloc: Global, perceptual: Lut, relative: Lut) -> Me
 }
 
 /// RGB with a lut for each way.
-pub(crate) fn writer(alloc: Global, lab: bool, forward: Lut, backward: Lut) -> Mem<Profile>
+pub fn writer(alloc: Global, lab: bool, forward: Lut, backward: Lut) -> Mem<Profile>
     requires forward_inputs { forward.inputs ≡ 3 }
     requires backward_inputs { backward.inputs ≡ 3 }
     requires forward_lab { forward.wide ≡ false → lab ≡ true }
@@ -184,7 +184,8 @@ pub(crate) fn writer(alloc: Global, lab: bool, forward: Lut, backward: Lut) -> M
     Ok(Profile::of_parts(nothing(alloc)?, lab, 3, None, forward, backward))
 }
 
-fn code_of(channels: u8, bytes: [u8; 4]) -> Code
+/// A code of so many channels; bytes behind them count for nothing.
+pub fn code_of(channels: u8, bytes: [u8; 4]) -> Code
     requires { (channels ≡ 1) ⊎ (channels ≡ 3) ⊎ (channels ≡ 4) }
     ensures { result.n ≡ channels }
 {
@@ -197,7 +198,7 @@ fn code_of(channels: u8, bytes: [u8; 4]) -> Code
 }
 
 /// The colour of 16 bits, where the target can receive.
-pub(crate) fn wide(
+pub fn wide(
     source: &Profile,
     target: &Profile,
     intent: Intent,
@@ -211,7 +212,7 @@ pub(crate) fn wide(
 }
 
 /// The colour of 8 bits, where the target can receive.
-pub(crate) fn narrow(
+pub fn narrow(
     source: &Profile,
     target: &Profile,
     intent: Intent,

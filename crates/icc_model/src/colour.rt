@@ -10,7 +10,7 @@ use press_fault::Code;
 
 /// Numbers of one connection space in the other, only where the two differ.
 #[tactic(auto, unfolding(crate::specs::Direct::carried))]
-fn carried(from_lab: bool, to_lab: bool, v: &Pcs) -> Pcs
+pub fn carried(from_lab: bool, to_lab: bool, v: &Pcs) -> Pcs
     requires { IsIn from_lab v.now }
     ensures value { result ≡ carried from_lab to_lab v.now }
     ensures range { IsIn to_lab result }
@@ -56,7 +56,7 @@ pub fn direct(source: &Profile, target: &Profile, intent: Intent, code: Code) ->
 
 /// A value of 16 bits in 8.
 #[tactic(auto, unfolding(crate::specs::Direct::narrowed, icc_tables::specs::Rounded::rounded))]
-fn narrowed(v: u16) -> u8
+pub fn narrowed(v: u16) -> u8
     ensures { result ≡ narrowed v }
 {
     ((u32::from(v) * 510 + 65535) / 131070) as u8

@@ -11,9 +11,11 @@ mod profile;
 mod source;
 mod target;
 
-pub use colour::{direct, direct_wide, wide_values_round_back};
+pub use colour::{carried, direct, direct_wide, narrowed, wide_values_round_back};
 pub use icc_tables::{
     Curve, Lut, NodeSize, Nodes, Pcs, SharedBytes, Values, curve_at, curve_back, lab_to_xyz,
     lattice_at, xyz_to_lab,
 };
 pub use profile::{Base, Intent, Profile, Transform};
+pub use source::{column, decoded, entered, source_of};
+pub use target::{cross, determinant, solved, target_of};

@@ -169,7 +169,7 @@ impl Profile {
 
     /// The transform to the connection space for an intent.
     #[tactic(auto, using(crate::proofs::Choices::suited))]
-    pub(crate) fn chosen_forward(&self, intent: Intent) -> Option<&Transform>
+    pub fn chosen_forward(&self, intent: Intent) -> Option<&Transform>
         ensures value { option_copied result ≡ chosen self.now.forward intent }
         ensures suited { IsSuitedTransform self.now.lab self.now.channels (option_copied result) }
     {
@@ -178,7 +178,7 @@ impl Profile {
 
     /// The transform from the connection space for an intent.
     #[tactic(auto, using(crate::proofs::Choices::suited))]
-    pub(crate) fn chosen_backward(&self, intent: Intent) -> Option<&Transform>
+    pub fn chosen_backward(&self, intent: Intent) -> Option<&Transform>
         ensures value { option_copied result ≡ chosen self.now.backward intent }
         ensures suited { IsSuitedTransform self.now.lab 3 (option_copied result) }
     {

@@ -18,7 +18,7 @@ use press_fault::Code;
 use press_nums::Wide;
 
 /// A column of a matrix: red, green or blue; or a row of a lut's.
-pub(crate) fn column(columns: &[i32; 9], k: u8) -> Pcs
+pub fn column(columns: &[i32; 9], k: u8) -> Pcs
     requires { k < 3 }
     ensures value { result ≡ column columns.now k }
     ensures bound { AreWithin (2 ^ 31) result }
@@ -154,7 +154,7 @@ fn chroma(v: u16, none: u16, step: u32) -> Wide
 }
 
 /// The connection space of a lut's three values.
-fn decoded(wide: bool, lab: bool, values: [u16; 3]) -> Pcs
+pub fn decoded(wide: bool, lab: bool, values: [u16; 3]) -> Pcs
     requires { wide ≡ false → lab ≡ true }
     ensures value { result ≡ decoded_list wide lab values }
     ensures range { IsIn lab result }
@@ -184,7 +184,7 @@ fn decoded(wide: bool, lab: bool, values: [u16; 3]) -> Pcs
 }
 
 /// A code in a lut's values.
-fn entered(lut: &Lut, c: u8) -> u16
+pub fn entered(lut: &Lut, c: u8) -> u16
     ensures value { result ≡ (if lut.now.wide then 257 * c else c) }
     ensures bound { result ≤ top_of lut.now.wide }
 {
@@ -249,7 +249,7 @@ const BLACK: Pcs = Pcs {
 
 /// The connection space of a code of a profile, at an intent.
 #[tactic(auto, unfolding(crate::specs::Direct::source_of))]
-pub(crate) fn source_of(profile: &Profile, intent: Intent, code: Code) -> Pcs
+pub fn source_of(profile: &Profile, intent: Intent, code: Code) -> Pcs
     requires { code.n ≡ profile.now.channels }
     ensures value { result ≡ source_of profile.now intent code }
     ensures range { IsIn profile.now.lab result }

@@ -38,7 +38,7 @@ fn product(a: Wide, b: Wide) -> Wide
 }
 
 /// The cross product of two columns: a row of the adjugate.
-fn cross(u: &Pcs, v: &Pcs) -> Pcs
+pub fn cross(u: &Pcs, v: &Pcs) -> Pcs
     requires u { AreWithin (2 ^ 31) u.now }
     requires v { AreWithin (2 ^ 31) v.now }
     ensures value { result ≡ cross u.now v.now }
@@ -71,7 +71,7 @@ fn large(a: Wide, b: Wide) -> Wide
 }
 
 /// The determinant of three columns.
-fn determinant(red: &Pcs, green: &Pcs, blue: &Pcs) -> Wide
+pub fn determinant(red: &Pcs, green: &Pcs, blue: &Pcs) -> Wide
     requires red { AreWithin (2 ^ 31) red.now }
     requires green { AreWithin (2 ^ 31) green.now }
     requires blue { AreWithin (2 ^ 31) blue.now }
@@ -82,7 +82,7 @@ fn determinant(red: &Pcs, green: &Pcs, blue: &Pcs) -> Wide
 }
 
 /// The linear value of a channel, from 0 to 65535, by its row of the adjugate.
-fn solved(det: Wide, row: &Pcs, xyz: &Pcs) -> u16
+pub fn solved(det: Wide, row: &Pcs, xyz: &Pcs) -> u16
     requires some { 0 < unsigned_abs det }
     requires det { unsigned_abs det < 2 ^ 96 }
     requires row { AreWithin (2 ^ 63) row.now }
@@ -319,7 +319,7 @@ fn base_target(base: Option<&Base>, lab: bool, channels: u8, v: &Pcs) -> [u16; 3
 
 /// The three values of 16 bits of the connection space in a profile, at an intent.
 #[tactic(auto, unfolding(crate::specs::Direct::target_of, crate::specs::Direct::can_receive))]
-pub(crate) fn target_of(profile: &Profile, intent: Intent, v: &Pcs) -> [u16; 3]
+pub fn target_of(profile: &Profile, intent: Intent, v: &Pcs) -> [u16; 3]
     requires receives { IsTrue (can_receive profile.now intent) }
     requires v { IsIn profile.now.lab v.now }
     ensures { result ≡ target_of profile.now intent v.now }

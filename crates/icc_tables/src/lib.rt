@@ -21,6 +21,6 @@ pub use nodes::{NodeSize, Nodes};
 pub use pcs::{
     Pcs, clamped, in_chroma, in_lightness, in_xyz, lab_of_xyz, lab_to_xyz, xyz_of_lab, xyz_to_lab,
 };
-pub use pipeline::{of_four, of_one, of_three};
+pub use pipeline::{before, of_four, of_one, of_point, of_three};
 pub use shared::SharedBytes;
 pub use values::Values;

@@ -2,7 +2,7 @@
 ghost use Rattle.std.specs.Prelude.{◌≡◌, ◌≤◌, ◌<◌, ◌*◌, ◌+◌, length, [], ◌∷◌, slice_index};
 ghost use Rattle.icc_tables.specs.Curves.{table_value};
 ghost use Rattle.icc_tables.specs.Lattice.{LutValue, IsCount, AreAtMost, IsPoint, top_of, entry_at, through_tables};
-ghost use Rattle.icc_tables.specs.Lattice.{lut_value};
+ghost use Rattle.icc_tables.specs.Lattice.{lattice_at, lut_value};
 
 use crate::curve::table_at;
 use crate::lattice::{Lut, values_at};
@@ -39,7 +39,7 @@ fn interpolated(entries: &[u16], from: usize, count: usize, v: u16) -> u16
 }
 
 /// A value through the input table of its channel.
-fn before(lut: &Lut, channel: u8, v: u16) -> u16
+pub fn before(lut: &Lut, channel: u8, v: u16) -> u16
     requires channel { channel < lut.now.inputs }
     requires v { v ≤ top_of lut.now.wide }
     ensures value { result ≡ entry_at lut.now.wide lut.now.before lut.now.before_count channel v }
@@ -70,6 +70,17 @@ fn finished(lut: &Lut, values: [u16; 3]) -> [u16; 3]
         after(lut, 1, second),
         after(lut, 2, third),
     ]
+}
+
+/// A lut from the point on that its input tables give.
+pub fn of_point(lut: &Lut, at: &[u16]) -> [u16; 3]
+    requires channels { length at.now ≡ lut.now.inputs }
+    requires point { IsPoint (top_of lut.now.wide) at.now }
+    ensures value { result ≡ through_tables lut.now.wide lut.now.after lut.now.after_count 0
+        (lattice_at lut.now at.now) }
+    ensures point { IsPoint (top_of lut.now.wide) result }
+{
+    finished(lut, values_at(lut, at))
 }
 
 /// A lut of one channel.
