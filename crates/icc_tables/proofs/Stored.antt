@@ -1,5 +1,6 @@
 -- The nodes of a lattice: how many they are, each of them, and how great they get.
-use Rattle.std.proofs.Common.{◌≡◌, ◌≤◌, ◌<◌, ℕ, zero, suc, ◌+◌, ◌*◌, ◌^◌, List, length, map, drop, slice_index, get_or, arith}
+use Rattle.std.proofs.Common.{◌≡◌, ◌≤◌, ◌<◌, ℕ, zero, suc, ◌+◌, ◌*◌}
+use Rattle.std.proofs.Common.{◌^◌, List, length, map, drop, slice_index, get_or, arith}
 use Rattle.std.proofs.Common.{ap, refl, take, [], ◌∷◌}
 use Rattle.std.specs.List.{range_with_len}
 use Rattle.std.proofs.Common.{sym, ◌∙◌}
