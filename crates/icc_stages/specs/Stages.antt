@@ -1,7 +1,8 @@
 -- The stages of a transform of version 4 (ICC.1:2010, 10.10 lutAToBType, to the connection space, and 10.11
 -- lutBToAType, from it). All values have 16 bits.
 use Rattle.std.specs.Prelude.{◌≡◌, ℕ, ◌+◌, ◌*◌, ◌≤◌, ◌⊎◌, Bool, true, false, List, [], ◌∷◌, length, take, slice_index}
-use Rattle.std.specs.Prelude.{slice_index_or, Option, Some, None, ℤ, pos, ◌+ℤ◌, ◌*ℤ◌, unsigned_abs, if◌then◌else◌, IfSome}
+use Rattle.std.specs.Prelude.{slice_index_or, Option, Some, None, ℤ}
+use Rattle.std.specs.Prelude.{pos, ◌+ℤ◌, ◌*ℤ◌, unsigned_abs, if◌then◌else◌, IfSome}
 use Rattle.press_nums.specs.Rounding.{div_round}
 use Rattle.icc_tables.specs.Rounded.{clamped}
 use Rattle.icc_tables.specs.Curves.{CurveValue, curve_at}

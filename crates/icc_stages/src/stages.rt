@@ -1,5 +1,6 @@
 //! The stages of a transform of version 4.
-ghost use Rattle.std.specs.Prelude.{◌≡◌, ◌≤◌, ◌<◌, ◌*◌, ◌+◌, ◌^◌, ◌⊎◌, ℤ, pos, ◌+ℤ◌, ◌*ℤ◌, true, false, length, unsigned_abs};
+ghost use Rattle.std.specs.Prelude.{◌≡◌, ◌≤◌, ◌<◌, ◌*◌, ◌+◌, ◌^◌, ◌⊎◌};
+ghost use Rattle.std.specs.Prelude.{ℤ, pos, ◌+ℤ◌, ◌*ℤ◌, true, false, length, unsigned_abs};
 ghost use Rattle.std.specs.Prelude.{take, slice_index, [], ◌∷◌, None, IfSome};
 ghost use Rattle.std.specs.Option.{option_copied};
 ghost use Rattle.press_nums.specs.Rounding.{div_round};

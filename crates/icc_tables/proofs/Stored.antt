@@ -135,4 +135,5 @@ pub same_nodes : (size : NodeSize) (bytes : List ℕ) (offset : ℕ) (tag : List
 unfolding nodes_of
 same_nodes size bytes offset tag at count h l =
     same_values (node_in size bytes (offset + at)) (node_in size tag at) 0 count
-    (λ k low high. same_node size bytes offset tag at k h (node_fits size at count k (length tag) (omega (arith, high)) l))
+    (λ k low high. same_node size bytes offset tag at k h
+    (node_fits size at count k (length tag) (omega (arith, high)) l))
