@@ -1,0 +1,123 @@
+//! The parts of stages, read from a tag without a fault.
+ghost use Rattle.std.specs.Prelude.{◌≡◌, ◌≢◌, ◌≤◌, ◌+◌, ◌*◌, ◌-◌, ◌⊎◌, ◌++◌, ◌∷◌, [], length, drop, take, false, None};
+ghost use Rattle.std.specs.Prelude.{replicate, IfOk};
+ghost use Rattle.press_nums.specs.Whole.{IsWhole};
+ghost use Rattle.icc_power.specs.CurveTag.{s15_at};
+ghost use Rattle.icc_power.specs.CurveTag.{has_other_type, is_misshapen, curve_of};
+ghost use Rattle.icc_v4lut.specs.StagesTag.{after_curve, curves_fault, curves_of, matrix_of};
+
+use crate::faults::{after_curve, rest};
+use icc_power::{curve_of_tag, s15_at};
+use icc_tables::Curve;
+use press_fault::Mem;
+use std::alloc::Global;
+
+/// The curve at a place, and where the one after it begins.
+fn curve_at(alloc: Global, tag: &[u8], at: usize) -> Mem<(Curve, usize)>
+    requires known { has_other_type (drop at tag.now) ≡ false }
+    requires good { is_misshapen (drop at tag.now) ≡ false }
+    ensures curve { IfOk result (λ read. read.0 ≡ curve_of (drop at tag.now)) }
+    ensures next { IfOk result (λ read. read.1 ≡ after_curve tag.now at) }
+{
+    let (curve, _) = curve_of_tag(alloc, rest(tag, at))?;
+    Ok((curve, after_curve(tag, at)))
+}
+
+/// One curve alone.
+fn one_curve(alloc: Global, tag: &[u8], at: usize) -> Mem<Curve>
+    requires { curves_fault tag.now 1 at ≡ None }
+    ensures { IfOk result (λ curve. curve ∷ [] ≡ curves_of tag.now 1 at) }
+{
+    let (curve, _) = curve_at(alloc, tag, at)?;
+    Ok(curve)
+}
+
+/// Three curves, one after another.
+pub(crate) fn three_curves(alloc: Global, tag: &[u8], at: usize) -> Mem<[Curve; 3]>
+    requires { curves_fault tag.now 3 at ≡ None }
+    ensures { IfOk result (λ curves. curves ≡ curves_of tag.now 3 at) }
+{
+    let (first, at) = curve_at(alloc, tag, at)?;
+    let (second, at) = curve_at(alloc, tag, at)?;
+    let (third, _) = curve_at(alloc, tag, at)?;
+    Ok([first, second, third])
+}
+
+/// Four curves, one after another.
+fn four_curves(alloc: Global, tag: &[u8], at: usize) -> Mem<[Curve; 4]>
+    requires { curves_fault tag.now 4 at ≡ None }
+    ensures { IfOk result (λ curves. curves ≡ curves_of tag.now 4 at) }
+{
+    let (first, at) = curve_at(alloc, tag, at)?;
+    let (second, at) = curve_at(alloc, tag, at)?;
+    let (third, at) = curve_at(alloc, tag, at)?;
+    let (fourth, _) = curve_at(alloc, tag, at)?;
+    Ok([first, second, third, fourth])
+}
+
+/// As many curves as channels, and the identity in place of the others.
+pub(crate) fn padded_curves(alloc: Global, inputs: u8, tag: &[u8], at: usize) -> Mem<[Curve; 4]>
+    requires inputs { (inputs ≡ 1) ⊎ (inputs ≡ 3) ⊎ (inputs ≡ 4) }
+    requires good { curves_fault tag.now inputs at ≡ None }
+    ensures { IfOk result (λ curves. curves ≡ curves_of tag.now inputs at ++ replicate (4 - inputs) None) }
+{
+    match inputs {
+        1 => {
+            let first = one_curve(alloc, tag, at)?;
+            Ok([
+                first,
+                Curve::identity(),
+                Curve::identity(),
+                Curve::identity(),
+            ])
+        }
+        3 => {
+            let [first, second, third] = three_curves(alloc, tag, at)?;
+            Ok([first, second, third, Curve::identity()])
+        }
+        _ => four_curves(alloc, tag, at),
+    }
+}
+
+/// The number of this number among those that begin at a place.
+fn number(tag: &[u8], at: usize, k: usize) -> i32
+    requires { at + 4 * k + 4 ≤ length tag.now }
+    ensures value { result ≡ s15_at tag.now (at + 4 * k) }
+    ensures whole { IsWhole result }
+{
+    s15_at(tag, at + 4 * k).get()
+}
+
+/// The twelve numbers of a matrix.
+pub(crate) fn matrix_of(tag: &[u8], at: usize) -> [i32; 12]
+    requires { at + 48 ≤ length tag.now }
+    ensures { result ≡ matrix_of tag.now at }
+{
+    [
+        number(tag, at, 0),
+        number(tag, at, 1),
+        number(tag, at, 2),
+        number(tag, at, 3),
+        number(tag, at, 4),
+        number(tag, at, 5),
+        number(tag, at, 6),
+        number(tag, at, 7),
+        number(tag, at, 8),
+        number(tag, at, 9),
+        number(tag, at, 10),
+        number(tag, at, 11),
+    ]
+}
+
+/// The grid points along as many channels, and 0 in place of the others.
+pub(crate) fn padded_grid(inputs: u8, lattice: &[u8]) -> [u8; 4]
+    requires inputs { (inputs ≡ 1) ⊎ (inputs ≡ 3) ⊎ (inputs ≡ 4) }
+    requires head { 20 ≤ length lattice.now }
+    ensures { result ≡ take inputs lattice.now ++ replicate (4 - inputs) 0 }
+{
+    match inputs {
+        1 => [lattice[0], 0, 0, 0],
+        3 => [lattice[0], lattice[1], lattice[2], 0],
+        _ => [lattice[0], lattice[1], lattice[2], lattice[3]],
+    }
+}
