@@ -150,16 +150,18 @@ abbrev pub size_by : ℕ → NodeSize
 size_by bytes = if bytes == 2 then Word else Widened
 
 -- the lattice with its curves; places that aren't used are 0, and curves the identity
+abbrev pub lattice_from : ℕ → List ℕ → ℕ → ℕ → LatticeValue
+lattice_from inputs tag at curves = record {
+  inputs = inputs;
+  grid = grid_of inputs (drop at tag) ++ replicate (4 - inputs) 0;
+  nodes = nodes_of (size_by (precision (drop at tag))) tag (at + 20) (node_count inputs (drop at tag));
+  curves = curves_of tag inputs curves ++ replicate (4 - inputs) None;
+}
+
+-- such a lattice, where it is there
 abbrev pub lattice_stage : ℕ → List ℕ → Option LatticeValue
 lattice_stage inputs tag =
-    if lattice_at tag == 0 then None
-    else Some (record {
-      inputs = inputs;
-      grid = grid_of inputs (drop (lattice_at tag) tag) ++ replicate (4 - inputs) 0;
-      nodes = nodes_of (size_by (precision (drop (lattice_at tag) tag))) tag (lattice_at tag + 20)
-          (node_count inputs (drop (lattice_at tag) tag));
-      curves = curves_of tag inputs (a_at tag) ++ replicate (4 - inputs) None;
-    })
+    if lattice_at tag == 0 then None else Some (lattice_from inputs tag (lattice_at tag) (a_at tag))
 
 -- what a tag without a fault is
 unfoldable pub stages_of : Bool → ℕ → List ℕ → StagesValue

@@ -1,5 +1,5 @@
 //! Which tags are no stages, and why.
-ghost use Rattle.std.specs.Prelude.{◌≡◌, ◌≤◌, ◌<◌, ◌+◌, ◌*◌, ◌^◌, ◌⊎◌, length, drop, false, None};
+ghost use Rattle.std.specs.Prelude.{◌≡◌, ◌≤◌, ◌<◌, ◌+◌, ◌*◌, ◌^◌, ◌⊎◌, length, take, drop, false, None};
 ghost use Rattle.std.specs.Prelude.{nat_lt};
 ghost use Rattle.std.specs.List.{list_any};
 ghost use Rattle.icc_power.specs.CurveTag.{has_other_type, is_misshapen, u32_at};
@@ -163,6 +163,43 @@ fn m_fault(tag: &[u8]) -> Option<PartFault>
     three_fault(tag, at)
 }
 
+/// So many channels are four at most.
+#[tactic(auto, using(crate::proofs::Grids::few_channels))]
+fn see_few(inputs: u8)
+    requires { (inputs ≡ 1) ⊎ (inputs ≡ 3) ⊎ (inputs ≡ 4) }
+    ensures { inputs ≤ 4 }
+{}
+
+/// The grid points of a lattice of one channel.
+#[tactic(auto, using(crate::proofs::Grids::count_one))]
+fn one_count(lattice: &[u8]) -> usize
+    requires { 20 ≤ length lattice.now }
+    ensures value { result ≡ point_count (take 1 lattice.now) }
+    ensures bound { result ≤ 255 }
+{
+    usize::from(lattice[0])
+}
+
+/// Those of one of three channels.
+#[tactic(auto, using(crate::proofs::Grids::count_three))]
+fn three_count(lattice: &[u8]) -> usize
+    requires { 20 ≤ length lattice.now }
+    ensures value { result ≡ point_count (take 3 lattice.now) }
+    ensures bound { result ≤ 255 ^ 3 }
+{
+    three(lattice[0], lattice[1], lattice[2])
+}
+
+/// Those of one of four.
+#[tactic(auto, using(crate::proofs::Grids::count_four))]
+fn four_count(lattice: &[u8]) -> usize
+    requires { 20 ≤ length lattice.now }
+    ensures value { result ≡ point_count (take 4 lattice.now) }
+    ensures bound { result ≤ 255 ^ 4 }
+{
+    four(lattice[0], lattice[1], lattice[2], lattice[3])
+}
+
 /// The grid points of a lattice, in all.
 fn point_count(inputs: u8, lattice: &[u8]) -> usize
     requires inputs { (inputs ≡ 1) ⊎ (inputs ≡ 3) ⊎ (inputs ≡ 4) }
@@ -171,9 +208,9 @@ fn point_count(inputs: u8, lattice: &[u8]) -> usize
     ensures bound { result ≤ 255 ^ 4 }
 {
     match inputs {
-        1 => usize::from(lattice[0]),
-        3 => three(lattice[0], lattice[1], lattice[2]),
-        _ => four(lattice[0], lattice[1], lattice[2], lattice[3]),
+        1 => one_count(lattice),
+        3 => three_count(lattice),
+        _ => four_count(lattice),
     }
 }
 
@@ -203,7 +240,7 @@ pub(crate) fn node_count(inputs: u8, lattice: &[u8]) -> usize
 
 /// Whether a channel has fewer than two grid points.
 fn has_no_cell(inputs: u8, lattice: &[u8]) -> bool
-    requires inputs { (inputs ≡ 1) ⊎ (inputs ≡ 3) ⊎ (inputs ≡ 4) }
+    requires few { inputs ≤ 4 }
     requires head { 20 ≤ length lattice.now }
     ensures { result ≡ list_any (λ points. nat_lt points 2) (grid_of inputs lattice.now) }
 {
@@ -220,6 +257,7 @@ fn is_bad_lattice(inputs: u8, lattice: &[u8]) -> bool
     if lattice.len() < 20 {
         return true;
     }
+    see_few(inputs);
     if has_no_cell(inputs, lattice) {
         return true;
     }

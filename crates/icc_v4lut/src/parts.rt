@@ -4,11 +4,13 @@ ghost use Rattle.std.specs.Prelude.{replicate, IfOk};
 ghost use Rattle.press_nums.specs.Whole.{IsWhole};
 ghost use Rattle.icc_power.specs.CurveTag.{s15_at};
 ghost use Rattle.icc_power.specs.CurveTag.{has_other_type, is_misshapen, curve_of};
-ghost use Rattle.icc_v4lut.specs.StagesTag.{after_curve, curves_fault, curves_of, matrix_of};
+ghost use Rattle.icc_tables.specs.Lattice.{AreAtMost};
+ghost use Rattle.icc_tables.specs.Stored.{IsTagAt, nodes_of};
+ghost use Rattle.icc_v4lut.specs.StagesTag.{after_curve, curves_fault, curves_of, matrix_of, size_by};
 
 use crate::faults::{after_curve, rest};
 use icc_power::{curve_of_tag, s15_at};
-use icc_tables::Curve;
+use icc_tables::{Curve, NodeSize, Nodes, SharedBytes, nodes_of_tag};
 use press_fault::Mem;
 use std::alloc::Global;
 
@@ -89,6 +91,7 @@ fn number(tag: &[u8], at: usize, k: usize) -> i32
 }
 
 /// The twelve numbers of a matrix.
+#[tactic(auto, using(crate::proofs::Numbers::twelve_numbers))]
 pub(crate) fn matrix_of(tag: &[u8], at: usize) -> [i32; 12]
     requires { at + 48 ≤ length tag.now }
     ensures { result ≡ matrix_of tag.now at }
@@ -109,15 +112,70 @@ pub(crate) fn matrix_of(tag: &[u8], at: usize) -> [i32; 12]
     ]
 }
 
+/// The grid points along one channel.
+#[tactic(auto, using(crate::proofs::Grids::grid_one, crate::proofs::Grids::grid_one_taken))]
+fn one_grid(lattice: &[u8]) -> [u8; 4]
+    requires { 20 ≤ length lattice.now }
+    ensures value { result ≡ take 1 lattice.now ++ 0 ∷ 0 ∷ 0 ∷ [] }
+    ensures taken { take 1 result ≡ take 1 lattice.now }
+{
+    [lattice[0], 0, 0, 0]
+}
+
+/// Those along three.
+#[tactic(auto, using(crate::proofs::Grids::grid_three, crate::proofs::Grids::grid_three_taken))]
+fn three_grids(lattice: &[u8]) -> [u8; 4]
+    requires { 20 ≤ length lattice.now }
+    ensures value { result ≡ take 3 lattice.now ++ 0 ∷ [] }
+    ensures taken { take 3 result ≡ take 3 lattice.now }
+{
+    [lattice[0], lattice[1], lattice[2], 0]
+}
+
+/// Those along four.
+#[tactic(auto, using(crate::proofs::Grids::grid_four, crate::proofs::Grids::grid_four_taken))]
+fn four_grids(lattice: &[u8]) -> [u8; 4]
+    requires { 20 ≤ length lattice.now }
+    ensures value { result ≡ take 4 lattice.now ++ [] }
+    ensures taken { take 4 result ≡ take 4 lattice.now }
+{
+    [lattice[0], lattice[1], lattice[2], lattice[3]]
+}
+
 /// The grid points along as many channels, and 0 in place of the others.
 pub(crate) fn padded_grid(inputs: u8, lattice: &[u8]) -> [u8; 4]
     requires inputs { (inputs ≡ 1) ⊎ (inputs ≡ 3) ⊎ (inputs ≡ 4) }
     requires head { 20 ≤ length lattice.now }
-    ensures { result ≡ take inputs lattice.now ++ replicate (4 - inputs) 0 }
+    ensures value { result ≡ take inputs lattice.now ++ replicate (4 - inputs) 0 }
+    ensures taken { take inputs result ≡ take inputs lattice.now }
 {
     match inputs {
-        1 => [lattice[0], 0, 0, 0],
-        3 => [lattice[0], lattice[1], lattice[2], 0],
-        _ => [lattice[0], lattice[1], lattice[2], lattice[3]],
+        1 => one_grid(lattice),
+        3 => three_grids(lattice),
+        _ => four_grids(lattice),
+    }
+}
+
+/// So many nodes of a tag from a place on, of one byte each or of two.
+#[tactic(auto, using(crate::proofs::Parts::one_inside, crate::proofs::Parts::two_inside))]
+pub(crate) fn nodes_at(
+    bytes: &SharedBytes,
+    offset: usize,
+    tag: &[u8],
+    at: usize,
+    count: usize,
+    precision: u8,
+) -> Mem<Nodes>
+    requires place { IsTagAt bytes.now offset tag.now }
+    requires precision { (precision ≡ 1) ⊎ (precision ≡ 2) }
+    requires inside { at + precision * count ≤ length tag.now }
+    ensures items { IfOk result (λ nodes. nodes ≡ nodes_of (size_by precision) tag.now at count) }
+    ensures length { IfOk result (λ nodes. length nodes ≡ count) }
+    ensures most { IfOk result (AreAtMost 65535) }
+{
+    if precision == 2 {
+        Ok(nodes_of_tag(bytes, offset, tag, at, count, NodeSize::Word)?)
+    } else {
+        Ok(nodes_of_tag(bytes, offset, tag, at, count, NodeSize::Widened)?)
     }
 }

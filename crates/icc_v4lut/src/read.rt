@@ -1,14 +1,16 @@
 //! Stages from their tags.
-ghost use Rattle.std.specs.Prelude.{◌≡◌, ◌≤◌, ◌+◌, ◌⊎◌, ◌↔◌, false, length, drop, None, Some, IfOk, IsErrOf};
+ghost use Rattle.std.specs.Prelude.{◌≡◌, ◌≤◌, ◌<◌, ◌+◌, ◌^◌, ◌⊎◌, ◌↔◌, false, length, drop, None, Some, IfOk, IsErrOf};
 ghost use Rattle.icc_tables.specs.Stored.{IsTagAt};
 ghost use Rattle.icc_stages.specs.Stages.{StagesValue};
 ghost use Rattle.icc_v4lut.specs.StagesTag.{stages_fault, matrix_fault, m_fault, lattice_fault, a_fault, stages_of};
-ghost use Rattle.icc_v4lut.specs.StagesTag.{matrix_stage, lattice_stage, size_by};
+ghost use Rattle.icc_v4lut.specs.StagesTag.{matrix_stage, lattice_stage, lattice_from, curves_fault};
+ghost use Rattle.icc_v4lut.specs.StagesTag.{matrix_at, m_at, lattice_at, a_at};
+ghost use Rattle.icc_v4lut.specs.Code.Good.{AreGood, IsGoodLattice};
 
 use crate::faults::{PartFault, node_count, place, rest, stages_fault};
-use crate::parts::{matrix_of, padded_curves, padded_grid, three_curves};
+use crate::parts::{matrix_of, nodes_at, padded_curves, padded_grid, three_curves};
 use icc_stages::{LatticeStage, MatrixStage, Stages};
-use icc_tables::{NodeSize, SharedBytes, nodes_of_tag};
+use icc_tables::SharedBytes;
 use press_fault::{Mem, NoMemory};
 use std::alloc::Global;
 
@@ -34,6 +36,18 @@ impl From<NoMemory> for StageFault {
     }
 }
 
+/// A matrix that is there stands inside, and has its curves.
+#[tactic(auto, using(crate::proofs::Parts::matrix_good, crate::proofs::Parts::m_good))]
+fn see_matrix(tag: &[u8], at: usize, curves: usize)
+    requires at { at ≡ matrix_at tag.now }
+    requires some { 0 < at }
+    requires place { curves ≡ m_at tag.now }
+    requires matrix { matrix_fault tag.now ≡ None }
+    requires m { m_fault tag.now ≡ None }
+    ensures inside { at + 48 ≤ length tag.now }
+    ensures curves { curves_fault tag.now 3 curves ≡ None }
+{}
+
 /// The matrix with its curves, where it is there.
 fn matrix_stage(alloc: Global, tag: &[u8]) -> Mem<Option<MatrixStage>>
     requires head { 32 ≤ length tag.now }
@@ -45,21 +59,54 @@ fn matrix_stage(alloc: Global, tag: &[u8]) -> Mem<Option<MatrixStage>>
     if at == 0 {
         return Ok(None);
     }
+    let curves = place(tag, 20);
+    see_matrix(tag, at, curves);
     Ok(Some(MatrixStage {
         matrix: matrix_of(tag, at),
-        curves: three_curves(alloc, tag, place(tag, 20))?,
+        curves: three_curves(alloc, tag, curves)?,
     }))
 }
 
-/// How a lattice's values are written: in so many bytes each.
-fn size_by(bytes: u8) -> NodeSize
-    ensures { result ≡ size_by bytes }
+/// What a lattice is that is there, and its curves.
+#[tactic(auto, using(crate::proofs::Parts::lattice_good, crate::proofs::Parts::a_good))]
+fn see_lattice(inputs: u8, tag: &[u8], at: usize, curves: usize)
+    requires at { at ≡ lattice_at tag.now }
+    requires some { 0 < at }
+    requires place { curves ≡ a_at tag.now }
+    requires lattice { lattice_fault inputs tag.now ≡ None }
+    requires a { a_fault inputs tag.now ≡ None }
+    ensures lattice { IsGoodLattice inputs (drop at tag.now) }
+    ensures curves { curves_fault tag.now inputs curves ≡ None }
+{}
+
+/// The lattice with its curves, of which it is known that they have no fault.
+#[tactic(auto, using(crate::proofs::Parts::nodes_inside))]
+fn lattice_of(
+    alloc: Global,
+    inputs: u8,
+    bytes: &SharedBytes,
+    offset: usize,
+    tag: &[u8],
+    places: (usize, usize),
+) -> Mem<LatticeStage>
+    requires place { IsTagAt bytes.now offset tag.now }
+    requires inputs { (inputs ≡ 1) ⊎ (inputs ≡ 3) ⊎ (inputs ≡ 4) }
+    requires bound { places.0 < 2 ^ 32 }
+    requires lattice { IsGoodLattice inputs (drop places.0 tag.now) }
+    requires curves { curves_fault tag.now inputs places.1 ≡ None }
+    ensures { IfOk result (λ stage. stage ≡ lattice_from inputs tag.now places.0 places.1) }
 {
-    if bytes == 2 {
-        NodeSize::Word
-    } else {
-        NodeSize::Widened
-    }
+    let lattice = rest(tag, places.0);
+    let count = node_count(inputs, lattice);
+    let nodes = nodes_at(bytes, offset, tag, places.0 + 20, count, lattice[16])?;
+    let grid = padded_grid(inputs, lattice);
+    let curves = padded_curves(alloc, inputs, tag, places.1)?;
+    Ok(LatticeStage {
+        inputs,
+        grid,
+        nodes,
+        curves,
+    })
 }
 
 /// The lattice with its curves, where it is there.
@@ -81,19 +128,21 @@ fn lattice_stage(
     if at == 0 {
         return Ok(None);
     }
-    let lattice = rest(tag, at);
-    let count = node_count(inputs, lattice);
-    let nodes = nodes_of_tag(bytes, offset, tag, at + 20, count, size_by(lattice[16]))?;
-    Ok(Some(LatticeStage {
-        inputs,
-        grid: padded_grid(inputs, lattice),
-        nodes,
-        curves: padded_curves(alloc, inputs, tag, place(tag, 28))?,
-    }))
+    let curves = place(tag, 28);
+    see_lattice(inputs, tag, at, curves);
+    let places = (at, curves);
+    Ok(Some(lattice_of(alloc, inputs, bytes, offset, tag, places)?))
 }
 
+/// The parts of a tag without a fault have none.
+#[tactic(auto, using(crate::proofs::Parts::are_good))]
+fn see_parts(inputs: u8, tag: &[u8])
+    requires { stages_fault inputs tag.now ≡ None }
+    ensures { AreGood inputs tag.now }
+{}
+
 /// The stages of a tag without a fault, which begins at this place of the profile.
-#[tactic(auto, unfolding(crate::specs::StagesTag::stages_of))]
+#[tactic(auto, using(crate::proofs::Parts::b_good), unfolding(crate::specs::StagesTag::stages_of))]
 pub fn stages_of(
     alloc: Global,
     forward: bool,
@@ -108,12 +157,16 @@ pub fn stages_of(
     requires good { stages_fault inputs tag.now ≡ None }
     ensures { IfOk result (λ stages. stages ≡ stages_of forward inputs tag.now) }
 {
+    see_parts(inputs, tag);
+    let b = three_curves(alloc, tag, place(tag, 12))?;
+    let matrix = matrix_stage(alloc, tag)?;
+    let lattice = lattice_stage(alloc, inputs, bytes, offset, tag)?;
     Ok(Stages {
         forward,
         inputs,
-        b: three_curves(alloc, tag, place(tag, 12))?,
-        matrix: matrix_stage(alloc, tag)?,
-        lattice: lattice_stage(alloc, inputs, bytes, offset, tag)?,
+        b,
+        matrix,
+        lattice,
     })
 }
 
