@@ -266,7 +266,7 @@ def id_state(data):
     return "Right" if md5(bytes(blank)).digest() == own else "Differs"
 
 
-# three small profiles
+# small profiles
 
 
 def profile(space, pcs, tags):

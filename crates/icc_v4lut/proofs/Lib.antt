@@ -1,3 +1,3 @@
 pub mod Grids
 pub mod Numbers
-pub mod Parts
+pub mod Walk

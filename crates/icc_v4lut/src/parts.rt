@@ -157,7 +157,7 @@ pub(crate) fn padded_grid(inputs: u8, lattice: &[u8]) -> [u8; 4]
 }
 
 /// So many nodes of a tag from a place on, of one byte each or of two.
-#[tactic(auto, using(crate::proofs::Parts::one_inside, crate::proofs::Parts::two_inside))]
+#[tactic(auto, using(crate::proofs::Walk::one_inside, crate::proofs::Walk::two_inside))]
 pub(crate) fn nodes_at(
     bytes: &SharedBytes,
     offset: usize,

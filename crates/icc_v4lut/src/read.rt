@@ -37,7 +37,7 @@ impl From<NoMemory> for StageFault {
 }
 
 /// A matrix that is there stands inside, and has its curves.
-#[tactic(auto, using(crate::proofs::Parts::matrix_good, crate::proofs::Parts::m_good))]
+#[tactic(auto, using(crate::proofs::Walk::matrix_good, crate::proofs::Walk::m_good))]
 fn see_matrix(tag: &[u8], at: usize, curves: usize)
     requires at { at ≡ matrix_at tag.now }
     requires some { 0 < at }
@@ -68,7 +68,7 @@ fn matrix_stage(alloc: Global, tag: &[u8]) -> Mem<Option<MatrixStage>>
 }
 
 /// What a lattice is that is there, and its curves.
-#[tactic(auto, using(crate::proofs::Parts::lattice_good, crate::proofs::Parts::a_good))]
+#[tactic(auto, using(crate::proofs::Walk::lattice_good, crate::proofs::Walk::a_good))]
 fn see_lattice(inputs: u8, tag: &[u8], at: usize, curves: usize)
     requires at { at ≡ lattice_at tag.now }
     requires some { 0 < at }
@@ -80,7 +80,7 @@ fn see_lattice(inputs: u8, tag: &[u8], at: usize, curves: usize)
 {}
 
 /// The lattice with its curves, of which it is known that they have no fault.
-#[tactic(auto, using(crate::proofs::Parts::nodes_inside))]
+#[tactic(auto, using(crate::proofs::Walk::nodes_inside))]
 fn lattice_of(
     alloc: Global,
     inputs: u8,
@@ -135,14 +135,14 @@ fn lattice_stage(
 }
 
 /// The parts of a tag without a fault have none.
-#[tactic(auto, using(crate::proofs::Parts::are_good))]
+#[tactic(auto, using(crate::proofs::Walk::are_good))]
 fn see_parts(inputs: u8, tag: &[u8])
     requires { stages_fault inputs tag.now ≡ None }
     ensures { AreGood inputs tag.now }
 {}
 
 /// The stages of a tag without a fault, which begins at this place of the profile.
-#[tactic(auto, using(crate::proofs::Parts::b_good), unfolding(crate::specs::StagesTag::stages_of))]
+#[tactic(auto, using(crate::proofs::Walk::b_good), unfolding(crate::specs::StagesTag::stages_of))]
 pub fn stages_of(
     alloc: Global,
     forward: bool,
