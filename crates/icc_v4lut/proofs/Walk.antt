@@ -5,7 +5,7 @@ use Rattle.std.specs.Prelude.{◌||◌, ◌&&◌, ◌==◌, not, nat_lt}
 use Rattle.std.specs.List.{list_any}
 use Rattle.std.proofs.lemmas.List.{length-drop}
 use Rattle.proof_words.proofs.Cases.{by_bool}
-use Rattle.std.proofs.lemmas.Bool.{ltb-false, false≢true, eqb-true}
+use Rattle.std.proofs.lemmas.Bool.{ltb-false, false≢true, eqb-true, ne_eqb}
 use Rattle.std.proofs.lemmas.Option.{none-some}
 use Rattle.icc_power.proofs.Shapes.{or_first, or_second}
 use Rattle.icc_stages.specs.Cells.{HaveCells, point_count}
@@ -52,8 +52,7 @@ are_good inputs tag h = by_bool (ltb (length tag) 32)
     }))
 
 not_none : (n : ℕ) → 0 < n → (n == 0) ≡ false
-not_none zero h = absurd (omega (arith, h))
-not_none (suc n) h = refl
+not_none n h = ne_eqb n 0 (λ e. omega (arith, e, h))
 
 -- the B curves
 pub b_good : (tag : List ℕ) → b_fault tag ≡ None → curves_fault tag 3 (b_at tag) ≡ None

@@ -91,7 +91,6 @@ fn number(tag: &[u8], at: usize, k: usize) -> i32
 }
 
 /// The twelve numbers of a matrix.
-#[tactic(auto, using(crate::proofs::Numbers::twelve_numbers))]
 pub(crate) fn matrix_of(tag: &[u8], at: usize) -> [i32; 12]
     requires { at + 48 ≤ length tag.now }
     ensures { result ≡ matrix_of tag.now at }

@@ -68,7 +68,7 @@ fn matrix_stage(alloc: Global, tag: &[u8]) -> Mem<Option<MatrixStage>>
 }
 
 /// What a lattice is that is there, and its curves.
-#[tactic(auto, using(crate::proofs::Walk::lattice_good, crate::proofs::Walk::a_good))]
+#[tactic(auto, using(crate::proofs::Walk::a_good))]
 fn see_lattice(inputs: u8, tag: &[u8], at: usize, curves: usize)
     requires at { at ≡ lattice_at tag.now }
     requires some { 0 < at }
@@ -135,7 +135,6 @@ fn lattice_stage(
 }
 
 /// The parts of a tag without a fault have none.
-#[tactic(auto, using(crate::proofs::Walk::are_good))]
 fn see_parts(inputs: u8, tag: &[u8])
     requires { stages_fault inputs tag.now ≡ None }
     ensures { AreGood inputs tag.now }
