@@ -11,6 +11,8 @@ use Rattle.icc_power.proofs.Shapes.{or_first, or_second}
 use Rattle.icc_stages.specs.Cells.{HaveCells, point_count}
 use Rattle.icc_v4lut.specs.StagesTag.{stages_fault, b_fault, matrix_fault, m_fault, lattice_fault, a_fault, or_later}
 use Rattle.icc_v4lut.specs.StagesTag.{shape_if, has_other_channels, curves_fault, b_at, matrix_at, m_at, lattice_at, a_at}
+use Rattle.icc_power.specs.CurveTag.{has_other_type, is_misshapen}
+use Rattle.icc_v4lut.specs.StagesTag.{curve_fault, after_curve}
 use Rattle.icc_v4lut.specs.StagesTag.{is_bad_lattice, precision, node_count, grid_of}
 use Rattle.icc_v4lut.specs.Code.Good.{AreGood, IsGoodLattice}
 use Rattle.icc_v4lut.specs.declared.faults.PartFault.{PartFault}
@@ -53,6 +55,34 @@ are_good inputs tag h = by_bool (ltb (length tag) 32)
 
 not_none : (n : ℕ) → 0 < n → (n == 0) ≡ false
 not_none n h = ne_eqb n 0 (λ e. omega (arith, e, h))
+
+known_of : (curve : List ℕ) → curve_fault curve ≡ None → has_other_type curve ≡ false
+unfolding curve_fault
+known_of curve h = by_bool (has_other_type curve)
+    (λ e. absurd (none-some Kind (sym (rw e at h))))
+    (λ e. e)
+
+good_of : (curve : List ℕ) → curve_fault curve ≡ None → is_misshapen curve ≡ false
+unfolding curve_fault
+good_of curve h = by_bool (is_misshapen curve)
+    (λ e. absurd (none-some Shape (sym (rw (known_of curve h, e) at h))))
+    (λ e. e)
+
+-- the first of several curves without a fault
+pub first_known : (tag : List ℕ) (count at : ℕ) → curves_fault tag (suc count) at ≡ None →
+    has_other_type (drop at tag) ≡ false
+first_known tag count at h = known_of (drop at tag)
+    (now_none (curve_fault (drop at tag)) (curves_fault tag count (after_curve tag at)) h)
+
+pub first_good : (tag : List ℕ) (count at : ℕ) → curves_fault tag (suc count) at ≡ None →
+    is_misshapen (drop at tag) ≡ false
+first_good tag count at h = good_of (drop at tag)
+    (now_none (curve_fault (drop at tag)) (curves_fault tag count (after_curve tag at)) h)
+
+-- and those after it
+pub others_good : (tag : List ℕ) (count at : ℕ) → curves_fault tag (suc count) at ≡ None →
+    curves_fault tag count (after_curve tag at) ≡ None
+others_good tag count at h = later_none (curve_fault (drop at tag)) (curves_fault tag count (after_curve tag at)) h
 
 -- the B curves
 pub b_good : (tag : List ℕ) → b_fault tag ≡ None → curves_fault tag 3 (b_at tag) ≡ None
