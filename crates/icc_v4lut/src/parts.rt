@@ -1,5 +1,5 @@
 //! The parts of stages, read from a tag without a fault.
-ghost use Rattle.std.specs.Prelude.{◌≡◌, ◌≢◌, ◌≤◌, ◌+◌, ◌*◌, ◌-◌, ◌⊎◌, ◌++◌, ◌∷◌, [], length, drop, take, false, None};
+ghost use Rattle.std.specs.Prelude.{◌≡◌, ◌≢◌, ◌≤◌, ◌+◌, ◌*◌, ◌-◌, ◌⊎◌, ◌++◌, ◌∷◌, [], length, drop, take, false, None, suc};
 ghost use Rattle.std.specs.Prelude.{replicate, IfOk};
 ghost use Rattle.press_nums.specs.Whole.{IsWhole};
 ghost use Rattle.icc_power.specs.CurveTag.{s15_at};
@@ -25,11 +25,24 @@ fn curve_at(alloc: Global, tag: &[u8], at: usize) -> Mem<(Curve, usize)>
     Ok((curve, after_curve(tag, at)))
 }
 
+/// The first of several curves without a fault has none, and those after it have none.
+#[tactic(
+    auto,
+    using(crate::proofs::Walk::first_known, crate::proofs::Walk::first_good, crate::proofs::Walk::others_good)
+)]
+fn see_first(tag: &[u8], at: usize, others: usize)
+    requires { curves_fault tag.now (suc others) at ≡ None }
+    ensures known { has_other_type (drop at tag.now) ≡ false }
+    ensures good { is_misshapen (drop at tag.now) ≡ false }
+    ensures others { curves_fault tag.now others (after_curve tag.now at) ≡ None }
+{}
+
 /// One curve alone.
 fn one_curve(alloc: Global, tag: &[u8], at: usize) -> Mem<Curve>
     requires { curves_fault tag.now 1 at ≡ None }
     ensures { IfOk result (λ curve. curve ∷ [] ≡ curves_of tag.now 1 at) }
 {
+    see_first(tag, at, 0);
     let (curve, _) = curve_at(alloc, tag, at)?;
     Ok(curve)
 }
@@ -39,8 +52,11 @@ pub(crate) fn three_curves(alloc: Global, tag: &[u8], at: usize) -> Mem<[Curve; 
     requires { curves_fault tag.now 3 at ≡ None }
     ensures { IfOk result (λ curves. curves ≡ curves_of tag.now 3 at) }
 {
+    see_first(tag, at, 2);
     let (first, at) = curve_at(alloc, tag, at)?;
+    see_first(tag, at, 1);
     let (second, at) = curve_at(alloc, tag, at)?;
+    see_first(tag, at, 0);
     let (third, _) = curve_at(alloc, tag, at)?;
     Ok([first, second, third])
 }
@@ -50,9 +66,13 @@ fn four_curves(alloc: Global, tag: &[u8], at: usize) -> Mem<[Curve; 4]>
     requires { curves_fault tag.now 4 at ≡ None }
     ensures { IfOk result (λ curves. curves ≡ curves_of tag.now 4 at) }
 {
+    see_first(tag, at, 3);
     let (first, at) = curve_at(alloc, tag, at)?;
+    see_first(tag, at, 2);
     let (second, at) = curve_at(alloc, tag, at)?;
+    see_first(tag, at, 1);
     let (third, at) = curve_at(alloc, tag, at)?;
+    see_first(tag, at, 0);
     let (fourth, _) = curve_at(alloc, tag, at)?;
     Ok([first, second, third, fourth])
 }
