@@ -1,6 +1,6 @@
 -- The grid of a lattice: its first bytes, one for each channel.
 use Rattle.std.proofs.Common.{◌≡◌, ◌≤◌, ◌*◌, ℕ, List, [], ◌∷◌, ◌++◌, length, take, slice_index, arith}
-use Rattle.std.proofs.Common.{refl, sym, tt, false, ◌⊎◌}
+use Rattle.std.proofs.Common.{refl, sym, false, ◌⊎◌}
 use Rattle.std.specs.Prelude.{nat_lt}
 use Rattle.std.specs.List.{list_any}
 use Rattle.std.proofs.lemmas.Bool.{ltb-false}

@@ -1,7 +1,7 @@
 -- What stages have whose walk over the parts meets no fault.
 use Rattle.std.proofs.Common.{◌≡◌, ◌≢◌, ◌≤◌, ◌<◌, ◌+◌, ◌-◌, ◌*◌, ℕ, zero, suc, Bool, true, false, List, length, arith, refl, ltb}
 use Rattle.std.proofs.Common.{sym, drop, Option, Some, None, ◌⊎◌, inl, inr, ◌∙◌, ap, subst}
-use Rattle.std.specs.Prelude.{◌||◌, ◌&&◌, ◌==◌, not, nat_lt}
+use Rattle.std.specs.Prelude.{◌||◌, ◌&&◌, ◌==◌, not, nat_lt, IfSome}
 use Rattle.std.specs.List.{list_any}
 use Rattle.std.proofs.lemmas.List.{length-drop}
 use Rattle.proof_words.proofs.Cases.{by_bool}
@@ -13,7 +13,8 @@ use Rattle.icc_v4lut.specs.StagesTag.{stages_fault, b_fault, matrix_fault, m_fau
 use Rattle.icc_v4lut.specs.StagesTag.{shape_if, has_other_channels, curves_fault, b_at, matrix_at, m_at, lattice_at, a_at}
 use Rattle.icc_power.specs.CurveTag.{has_other_type, is_misshapen}
 use Rattle.icc_v4lut.specs.StagesTag.{curve_fault, after_curve}
-use Rattle.icc_v4lut.specs.StagesTag.{is_bad_lattice, precision, node_count, grid_of}
+use Rattle.icc_v4lut.specs.StagesTag.{is_bad_lattice, precision, node_count, grid_of, lattice_from, lattice_stage}
+use Rattle.icc_stages.specs.Stages.{LatticeValue}
 use Rattle.icc_v4lut.specs.Code.Good.{AreGood, IsGoodLattice}
 use Rattle.icc_v4lut.specs.declared.faults.PartFault.{PartFault}
 use Rattle.icc_v4lut.specs.declared.faults.PartFault.TheVariants.{Kind, Shape}
@@ -155,8 +156,8 @@ pub no_lattice : (inputs : ℕ) (tag : List ℕ) → lattice_at tag ≡ 0 → la
 unfolding lattice_fault
 no_lattice inputs tag none h = by_bool (inputs == 3)
     (λ e. eqb-true inputs 3 e)
-    (λ e. absurd (false≢true (sym (or_second (not (a_at tag == 0)) (not (inputs == 3)) (no_shape _ (rw none at h))
-    ∙ ap not e))))
+    (λ e. absurd (false≢true (sym (or_second (not (a_at tag == 0)) (not (inputs == 3)) (no_shape _ (rw none at h)))
+    ∙ ap not e)))
 
 -- nodes of one byte each, and of two
 pub one_inside : (at bytes count l : ℕ) → (bytes ≡ 1) ⊎ (bytes ≡ 2) → bytes ≢ 2 → at + bytes * count ≤ l →
@@ -172,3 +173,18 @@ pub nodes_inside : (inputs : ℕ) (tag : List ℕ) (at count bytes : ℕ) → Is
     count ≡ node_count inputs (drop at tag) → bytes ≡ precision (drop at tag) → at + 20 + bytes * count ≤ length tag
 nodes_inside inputs tag at count bytes h e f =
     rw (e, f) (let d = length-drop at tag in let w = h.whole in omega (arith, d, w))
+
+-- a lattice that is there has the channels that were asked for
+of_stage : (inputs : ℕ) (tag : List ℕ) → IfSome (lattice_stage inputs tag) (λ lattice. lattice.inputs ≡ inputs)
+of_stage inputs tag = by_bool (lattice_at tag == 0) (λ e. rw e tt) (λ e. rw e refl)
+
+pub lattice_channels : (inputs : ℕ) (tag : List ℕ) (l : Option LatticeValue) → l ≡ lattice_stage inputs tag →
+    IfSome l (λ lattice. lattice.inputs ≡ inputs)
+lattice_channels inputs tag l is = rw is (of_stage inputs tag)
+
+-- where there is none the channels are three
+pub three_channels : (inputs : ℕ) (tag : List ℕ) (l : Option LatticeValue) → l ≡ lattice_stage inputs tag →
+    lattice_fault inputs tag ≡ None → l ≡ None → inputs ≡ 3
+three_channels inputs tag l is h none = by_bool (lattice_at tag == 0)
+    (λ e. no_lattice inputs tag (eqb-true (lattice_at tag) 0 e) h)
+    (λ e. absurd (none-some (lattice_from inputs tag (lattice_at tag) (a_at tag)) (sym none ∙ rw e at is)))

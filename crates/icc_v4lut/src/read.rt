@@ -122,7 +122,7 @@ fn lattice_stage(
     requires head { 32 ≤ length tag.now }
     requires lattice { lattice_fault inputs tag.now ≡ None }
     requires curves { a_fault inputs tag.now ≡ None }
-    ensures value { IfOk result (λ stage. stage ≡ lattice_stage inputs tag.now) }
+    ensures { IfOk result (λ stage. stage ≡ lattice_stage inputs tag.now) }
 {
     let at = place(tag, 24);
     if at == 0 {
