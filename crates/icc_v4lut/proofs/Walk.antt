@@ -1,14 +1,13 @@
 -- What stages have whose walk over the parts meets no fault.
-use Rattle.std.proofs.Common.{◌≡◌, ◌≢◌, ◌≤◌, ◌<◌, ◌+◌, ◌-◌, ◌*◌, ℕ, zero, suc, Bool, true, false, List, length, arith, refl, ltb}
+use Rattle.std.proofs.Common.{◌≡◌, ◌≢◌, ◌≤◌, ◌<◌, ◌+◌, ◌*◌, ℕ, suc, Bool, true, false, List, length, arith, refl, ltb}
 use Rattle.std.proofs.Common.{sym, drop, Option, Some, None, ◌⊎◌, inl, inr, ◌∙◌, ap, subst}
-use Rattle.std.specs.Prelude.{◌||◌, ◌&&◌, ◌==◌, not, nat_lt, IfSome}
+use Rattle.std.specs.Prelude.{◌||◌, ◌==◌, not, nat_lt, IfSome}
 use Rattle.std.specs.List.{list_any}
 use Rattle.std.proofs.lemmas.List.{length-drop}
 use Rattle.proof_words.proofs.Cases.{by_bool}
 use Rattle.std.proofs.lemmas.Bool.{ltb-false, false≢true, eqb-true, ne_eqb}
 use Rattle.std.proofs.lemmas.Option.{none-some}
 use Rattle.icc_power.proofs.Shapes.{or_first, or_second}
-use Rattle.icc_stages.specs.Cells.{HaveCells, point_count}
 use Rattle.icc_v4lut.specs.StagesTag.{stages_fault, b_fault, matrix_fault, m_fault, lattice_fault, a_fault, or_later}
 use Rattle.icc_v4lut.specs.StagesTag.{shape_if, has_other_channels, curves_fault, b_at, matrix_at, m_at, lattice_at, a_at}
 use Rattle.icc_power.specs.CurveTag.{has_other_type, is_misshapen}

@@ -26,10 +26,7 @@ fn curve_at(alloc: Global, tag: &[u8], at: usize) -> Mem<(Curve, usize)>
 }
 
 /// The first of several curves without a fault has none, and those after it have none.
-#[tactic(
-    auto,
-    using(crate::proofs::Walk::first_known, crate::proofs::Walk::first_good, crate::proofs::Walk::others_good)
-)]
+#[tactic(auto, using(crate::proofs::Walk::first_known, crate::proofs::Walk::first_good, crate::proofs::Walk::others_good))]
 fn see_first(tag: &[u8], at: usize, others: usize)
     requires { curves_fault tag.now (suc others) at ≡ None }
     ensures known { has_other_type (drop at tag.now) ≡ false }
