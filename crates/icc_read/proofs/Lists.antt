@@ -8,7 +8,6 @@ use Rattle.icc_tables.specs.Stored.{node_in, nodes_of, size_of}
 use Rattle.icc_tables.specs.declared.nodes.NodeSize.{NodeSize}
 use Rattle.icc_tables.specs.declared.nodes.NodeSize.TheVariants.{Byte, Word}
 use Rattle.icc_tables.proofs.Stored.{node_fits}
-use Rattle.icc_read.specs.Code.Premises.{IsTagAt}
 use Rattle.icc_power.specs.CurveTag.{u16_at}
 use Rattle.icc_tables.specs.Lattice.{AreAtMost}
 

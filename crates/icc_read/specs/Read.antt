@@ -1,6 +1,6 @@
 -- What a profile's bytes say (ICC.1:2010, 10.5 curveType, 10.8 lut16Type, 10.9 lut8Type, 10.16 parametricCurveType,
 -- 10.29 XYZType): the value of bytes that have no fault.
-use Rattle.std.specs.Prelude.{ℕ, ◌+◌, ◌*◌, ◌==◌, true, false, List, [], ◌∷◌, map, take, slice_index}
+use Rattle.std.specs.Prelude.{ℕ, ◌+◌, ◌*◌, ◌==◌, Bool, true, false, List, [], ◌∷◌, map, take, slice_index}
 use Rattle.std.specs.Prelude.{Option, Some, None, option_map, ℤ, if◌then◌else◌}
 use Rattle.std.specs.Option.{option_map_or}
 use Rattle.std.specs.List.{range_with_len, flat_map}
