@@ -20,9 +20,9 @@ lut8-requires-clause-good c = mft1_is c.args.forward c.args.inputs c.args.tag.no
     (sym c.if-is_stages.ensures) (sym c.if-is_mft2.ensures)
 
 -- stages lead the way that was asked
-pub returns-then-is_stages-in_ok-stages_of-clause-suited : goal.returns-then-is_stages-in_ok-stages_of-clause-suited
+pub returns-then-is_stages-clause-suited : goal.returns-then-is_stages-clause-suited
 unfolding stages_of
-returns-then-is_stages-in_ok-stages_of-clause-suited c = (
+returns-then-is_stages-clause-suited c = (
   ap (λ (stages : StagesValue). stages.inputs) c.in_ok-stages_of.ensures,
   ap (λ (stages : StagesValue). stages.forward) c.in_ok-stages_of.ensures,
 )
