@@ -1,13 +1,8 @@
 -- Values of a tag, one after another.
-use Rattle.std.proofs.Common.{◌≡◌, ◌≤◌, ℕ, zero, suc, ◌+◌, ◌*◌, ◌^◌, ◌<◌, List, [], ◌∷◌, map, drop, get_or, arith}
-use Rattle.std.proofs.Common.{ap, ◌∙◌, sym, refl, take, length, slice_index}
+use Rattle.std.proofs.Common.{◌≡◌, ◌≤◌, ℕ, zero, suc, ◌+◌, List, map, drop, get_or, arith}
+use Rattle.std.proofs.Common.{ap, ◌∙◌}
 use Rattle.std.specs.List.{range_with_len}
-use Rattle.std.proofs.lemmas.List.{get_or-drop, get_or-take, length-take-le, length-drop}
-use Rattle.byteorder.specs.Endian.{big_number}
-use Rattle.icc_tables.specs.Stored.{node_in, nodes_of, size_of}
-use Rattle.icc_tables.specs.declared.nodes.NodeSize.{NodeSize}
-use Rattle.icc_tables.specs.declared.nodes.NodeSize.TheVariants.{Byte, Word}
-use Rattle.icc_tables.proofs.Stored.{node_fits}
+use Rattle.std.proofs.lemmas.List.{get_or-drop}
 use Rattle.icc_power.specs.CurveTag.{u16_at}
 use Rattle.icc_tables.specs.Lattice.{AreAtMost}
 

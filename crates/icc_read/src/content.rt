@@ -25,7 +25,11 @@ const MBA: u32 = 0x6d42_4120;
 pub(crate) enum Content {
     /// A transform to the connection space, else from it, of so many input channels, with the
     /// connection space Lab, else XYZ.
-    Transform { forward: bool, inputs: u8, lab: bool },
+    Transform {
+        forward: bool,
+        inputs: u8,
+        lab: bool,
+    },
     /// A column of the matrix.
     Column,
     /// A curve.

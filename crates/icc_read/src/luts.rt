@@ -11,9 +11,9 @@ ghost use Rattle.icc_read.specs.Code.Premises.{IsChannels, IsMft1, IsMft2};
 
 use crate::content::{is_mft2, is_stages, node_count};
 use icc_model::{Lut, NodeSize, Nodes, SharedBytes, Transform, Values};
+use icc_power::{s15_at, u16_at};
 use icc_tables::nodes_of_tag;
 use icc_v4lut::stages_of;
-use icc_power::{s15_at, u16_at};
 use press_fault::Mem;
 use std::alloc::Global;
 
@@ -168,9 +168,7 @@ pub(crate) fn transform_of(
     ensures suited { IfOk result (λ transform. IsSuitedTransform forward lab inputs (Some transform)) }
 {
     if is_stages(forward, tag) {
-        return Ok(Transform::Stages(stages_of(
-            alloc, forward, inputs, bytes, offset, tag,
-        )?));
+        return Ok(Transform::Stages(stages_of(alloc, forward, inputs, bytes, offset, tag)?));
     }
     if is_mft2(tag) {
         Ok(Transform::Lut(lut16(alloc, inputs, bytes, offset, tag)?))

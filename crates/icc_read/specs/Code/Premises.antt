@@ -1,6 +1,5 @@
 -- What the reader of a tag may take for granted: the tests before it, as facts.
-use Rattle.std.specs.Prelude.{◌≡◌, ◌≤◌, ◌⊎◌, ℕ, ◌+◌, ◌*◌, Bool, false, List, Option, length, slice_index, take}
-use Rattle.std.specs.Prelude.{drop}
+use Rattle.std.specs.Prelude.{◌≡◌, ◌≤◌, ◌⊎◌, ℕ, ◌+◌, ◌*◌, Bool, false, List, Option, length, slice_index}
 use Rattle.std.specs.Option.{option_map_or}
 use Rattle.icc_model.specs.Profile.{IsSuitedTransform, nth}
 use Rattle.icc_model.specs.declared.profile.Transform.{Transform}
