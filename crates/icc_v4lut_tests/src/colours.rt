@@ -111,7 +111,14 @@ fn given(
 #[test]
 fn a_matrix_comes_after_m_curves(rt: HostRuntime) -> Result<(), Fail> {
     let body = [PLAIN, PLAIN, PLAIN, TURNED, RISING, FALLING, PLAIN];
-    let found = seen(rt.alloc(), false, 3, [200, 100, 50, 0], [32, 68, 116, 0, 0], &body)?;
+    let found = seen(
+        rt.alloc(),
+        false,
+        3,
+        [200, 100, 50, 0],
+        [32, 68, 116, 0, 0],
+        &body,
+    )?;
     assert_eq!(rt; found, Some([58153, 39339, 28811]));
     Ok(())
 }
@@ -131,7 +138,14 @@ fn each_channel_has_its_own_grid(rt: HostRuntime) -> Result<(), Fail> {
 #[test]
 fn a_lattice_has_one_channel_or_four(rt: HostRuntime) -> Result<(), Fail> {
     let one = [PLAIN, PLAIN, PLAIN, LINE, FALLING];
-    let found = seen(rt.alloc(), false, 1, [77, 0, 0, 0], [32, 0, 0, 68, 100], &one)?;
+    let found = seen(
+        rt.alloc(),
+        false,
+        1,
+        [77, 0, 0, 0],
+        [32, 0, 0, 68, 100],
+        &one,
+    )?;
     assert_eq!(rt; found, Some([44489, 50400, 56311]));
     let four = [
         RISING, FALLING, PLAIN, TURNED, PLAIN, PLAIN, PLAIN, FOUR, PLAIN, FALLING, PLAIN, RISING,
@@ -145,12 +159,32 @@ fn a_lattice_has_one_channel_or_four(rt: HostRuntime) -> Result<(), Fail> {
 #[test]
 fn parts_may_stand_anywhere(rt: HostRuntime) -> Result<(), Fail> {
     // the first curve begins at 33, the next at 52
-    let odd = [b"\0".as_slice(), RISING.split_at(18).0, b"\0", FALLING, PLAIN];
-    let found = seen(rt.alloc(), false, 3, [100, 150, 200, 0], [33, 0, 0, 0, 0], &odd)?;
+    let odd = [
+        b"\0".as_slice(),
+        RISING.split_at(18).0,
+        b"\0",
+        FALLING,
+        PLAIN,
+    ];
+    let found = seen(
+        rt.alloc(),
+        false,
+        3,
+        [100, 150, 200, 0],
+        [33, 0, 0, 0, 0],
+        &odd,
+    )?;
     assert_eq!(rt; found, Some([15686, 44632, 51400]));
     // B and M curves are the same bytes, and the matrix begins in the head
     let same = [PLAIN, PLAIN, RISING];
-    let found = seen(rt.alloc(), false, 3, [100, 0, 200, 0], [32, 4, 32, 0, 0], &same)?;
+    let found = seen(
+        rt.alloc(),
+        false,
+        3,
+        [100, 0, 200, 0],
+        [32, 4, 32, 0, 0],
+        &same,
+    )?;
     assert_eq!(rt; found, Some([22, 65535, 0]));
     Ok(())
 }

@@ -36,9 +36,21 @@ fn the_first_fault_of_a_walk_counts(rt: HostRuntime) -> Result<(), Fail> {
         ("B curves alone", [3, 3], [32, 0, 0, 0, 0], plain, Ok(())),
         ("no B curves", [3, 3], [0, 0, 0, 0, 0], plain, SHAPE),
         ("channels, B curves", [4, 3], [32, 0, 0, 0, 0], first, SHAPE),
-        ("B curves, A curves alone", [3, 3], [32, 0, 0, 0, 32], first, KIND),
+        (
+            "B curves, A curves alone",
+            [3, 3],
+            [32, 0, 0, 0, 32],
+            first,
+            KIND,
+        ),
         ("A curves alone", [3, 3], [32, 0, 0, 0, 32], plain, SHAPE),
-        ("the third past the end", [3, 3], [56, 0, 0, 0, 0], plain, SHAPE),
+        (
+            "the third past the end",
+            [3, 3],
+            [56, 0, 0, 0, 0],
+            plain,
+            SHAPE,
+        ),
         ("matrix, M curves", [3, 3], [32, 33, 68, 0, 0], last, SHAPE),
         ("M curves", [3, 3], [32, 32, 68, 0, 0], last, KIND),
         ("M curves alone", [3, 3], [32, 0, 32, 0, 0], plain, SHAPE),
@@ -61,7 +73,13 @@ fn a_lattice_has_two_grid_points_and_all_its_values(rt: HostRuntime) -> Result<(
         ("none", [2, 2, 2, 0], 0, 160, SHAPE),
         ("a value short", [2, 2, 2, 0], 1, 111, SHAPE),
         ("one grid point", [2, 1, 2, 0], 1, 160, SHAPE),
-        ("a fourth channel is not asked", [2, 2, 2, 1], 1, 112, Ok(())),
+        (
+            "a fourth channel is not asked",
+            [2, 2, 2, 1],
+            1,
+            112,
+            Ok(()),
+        ),
         ("another grid", [2, 3, 2, 0], 1, 123, SHAPE),
     ];
     for (name, grid, size, length, want) in cases {
