@@ -49,9 +49,11 @@ def curve_back(entries, value):
 
 
 def lattice_at(top, grid, nodes, point):
-    """Three values of a lattice; the first channel varies least rapidly."""
+    """Three values of a lattice; the first channel varies least rapidly. `grid` is one number for all channels, or a
+    list of one for each."""
     sums = [Fraction(0)] * 3
-    places = [Fraction(value * (grid - 1), top) for value in point]
+    grids = grid if isinstance(grid, list) else [grid] * len(point)
+    places = [Fraction(value * (points - 1), top) for value, points in zip(point, grids)]
     for corner in range(2 ** len(point)):
         weight = Fraction(1)
         index = 0
@@ -59,7 +61,7 @@ def lattice_at(top, grid, nodes, point):
             upper = corner >> channel & 1
             part = place - int(place)
             weight *= part if upper else 1 - part
-            index = index * grid + int(place) + upper
+            index = index * grids[channel] + int(place) + upper
         if weight:
             for output in range(3):
                 sums[output] += weight * nodes[index * 3 + output]
@@ -131,6 +133,18 @@ class Lut:
 
 
 @dataclasses.dataclass
+class Stages:
+    """Stages of version 4. The B curves stand at the connection space; the matrix (twelve numbers by rows, the last
+    three added) and the lattice (points along each channel, nodes) have curves of their own, and may be missing."""
+    curves: list
+    matrix: Optional[list] = None
+    matrix_curves: Optional[list] = None
+    grid: Optional[list] = None
+    nodes: Optional[list] = None
+    lattice_curves: Optional[list] = None
+
+
+@dataclasses.dataclass
 class Matrix:
     """Columns of X, Y and Z for red, green and blue, and their curves."""
     columns: list
@@ -170,13 +184,44 @@ def lut_at(lut, values):
     return [table_at(lut.bits, *pair) for pair in zip(lut.after, middle)]
 
 
+def through(curves, values):
+    return [curve_at(curve, value) for curve, value in zip(curves, values)]
+
+
+def by_rows(matrix, values):
+    """Three rows of three numbers, and one to be added to each, in 1/65536."""
+    return [clamp(nearest(Fraction(sum(matrix[3 * row + k] * values[k] for k in range(3)) + matrix[9 + row] * 65535,
+                                   65536)), 0, 65535) for row in range(3)]
+
+
+def stages_at(stages, forward, values):
+    """Stages in the order of the standard's figures: to the connection space A, lattice, M, matrix, B."""
+    steps = []
+    if stages.grid:
+        steps += [lambda v: through(stages.lattice_curves, v),
+                  lambda v: lattice_at(65535, stages.grid, stages.nodes, v)]
+    if stages.matrix:
+        steps += [lambda v: through(stages.matrix_curves, v), lambda v: by_rows(stages.matrix, v)]
+    steps.append(lambda v: through(stages.curves, v))
+    for step in steps if forward else steps[::-1]:
+        values = step(values)
+    return values
+
+
 # What a step of each encoding of the connection space is, and the value that stands for 0.
 XYZ_16 = (Fraction(1, 32768), 0)
 LIGHTNESS = {16: (Fraction(100, 0xFF00), 0), 8: (Fraction(100, 255), 0)}
 CHROMA = {16: (Fraction(1, 256), 0x8000), 8: (Fraction(1), 0x80)}
 
 
+# The encoding of version 4: L* of 100 is FFFF hex, and 0 of a* and b* 8080 hex.
+LAB_4 = [(Fraction(100, 65535), 0), (Fraction(1, 257), 0x8080), (Fraction(1, 257), 0x8080)]
+
+
 def encodings(is_lab, bits):
+    """`bits` is 16 or 8 for those of luts, and 4 for that of stages."""
+    if is_lab and bits == 4:
+        return LAB_4
     if is_lab:
         return [LIGHTNESS[bits], CHROMA[bits], CHROMA[bits]]
     return [XYZ_16] * 3
@@ -209,9 +254,22 @@ def from_lut(lut, is_lab, code):
                              for value, (step, none) in zip(values, encodings(is_lab, lut.bits))])
 
 
+def from_stages(stages, is_lab, code):
+    values = stages_at(stages, True, [257 * value for value in code])
+    return in_space(is_lab, [(value - none) * step for value, (step, none) in zip(values, encodings(is_lab, 4))])
+
+
+def to_stages(stages, is_lab, numbers):
+    values = [clamp(nearest(Fraction(number, 65536) / step) + none, 0, 65535)
+              for number, (step, none) in zip(numbers, encodings(is_lab, 4))]
+    return stages_at(stages, False, values)
+
+
 def source(profile, intent, code):
     """A code as numbers of the profile's connection space."""
     lut = chosen(profile.forward, intent)
+    if isinstance(lut, Stages):
+        return from_stages(lut, profile.is_lab, code)
     if lut:
         return from_lut(lut, profile.is_lab, code)
     if isinstance(profile.base, Matrix):
@@ -264,6 +322,8 @@ def direct_wide(source_profile, target, intent, code):
     if target.is_lab and not source_profile.is_lab:
         numbers = xyz_to_lab(numbers)
     lut = chosen(target.backward, intent)
+    if isinstance(lut, Stages):
+        return to_stages(lut, target.is_lab, numbers)
     return to_lut(lut, target.is_lab, numbers) if lut else to_matrix(target.base, numbers)
 
 

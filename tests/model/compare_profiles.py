@@ -1,7 +1,7 @@
 #!/usr/bin/env python3
 """Compares what the program `profile` makes of profiles with the model.
 
-`compare_profiles.py PROFILE`: three small profiles with each byte changed to 0, 1, 7F, 80 and FF,
+`compare_profiles.py PROFILE`: small profiles of each kind with each byte changed to 0, 1, 7F, 80 and FF,
 cut to each shorter length, the head of a fourth changed likewise, and a few more, 1,000 in one run of the program PROFILE. A difference is
 printed; the last line is 'N passed, M failed'.
 """
@@ -13,7 +13,7 @@ from hashlib import md5
 from pathlib import Path
 
 import profiles
-from profiles import GRAY, LUT, MATRIX, SHORT_LUT, Profile
+from profiles import BACKWARD_STAGES, FORWARD_STAGES, GRAY, LUT, MATRIX, SHORT_LUT, Profile, Stages
 
 SPACES = {1: "GRAY", 3: "RGB", 4: "CMYK"}
 NAMES = ("A2B0", "A2B1", "A2B2", "B2A0", "B2A1", "B2A2")
@@ -55,7 +55,8 @@ def twice(data):
 
 def cases():
     """Names and bytes."""
-    for name, data in (("matrix", MATRIX), ("gray", GRAY), ("lut", LUT)):
+    for name, data in (("matrix", MATRIX), ("gray", GRAY), ("lut", LUT), ("mab", FORWARD_STAGES),
+                       ("mba", BACKWARD_STAGES)):
         yield name, data
         for at in range(len(data)):
             for value in (0, 1, 0x7F, 0x80, 0xFF):
@@ -75,6 +76,18 @@ def cases():
     yield "lut-twice", twice(LUT)
 
 
+def told(stages):
+    """What the program tells of stages: their grid, the MD5 of curves at 16 values each and of nodes, the matrix."""
+    values = []
+    for curves in (stages.curves, stages.matrix_curves or [], stages.lattice_curves or []):
+        values += [profiles.value_at(curve, 4369 * k) for curve in curves for k in range(16)]
+    values += stages.nodes or []
+    digest = md5(b"".join(n.to_bytes(2, "big") for n in values)).hexdigest()
+    grid = "".join(f" {points}" for points in stages.grid or [])
+    matrix = "".join(f" {n}" for n in stages.matrix or [])
+    return f"stages of {stages.inputs} channels, grid{grid}, MD5 {digest} matrix{matrix}"
+
+
 def said(name, data):
     """The lines that the program owes."""
     profile = profiles.read(data)
@@ -91,7 +104,9 @@ def said(name, data):
     for tag, curve in zip(MATRIX_TAGS[3:] if profile.columns else ["kTRC"], profile.curves):
         lines.append(f"  {tag} {' '.join(str(profiles.value_at(curve, 4369 * k)) for k in range(16))}")
     for tag, lut in zip(NAMES, profile.forward + profile.backward):
-        if lut:
+        if isinstance(lut, Stages):
+            lines.append(f"  {tag}: {told(lut)}")
+        elif lut:
             values = b"".join(n.to_bytes(2, "big") for n in lut.before + lut.nodes + lut.after)
             lines.append(f"  {tag}: {16 if lut.wide else 8} bits, {lut.grid} grid points, tables of "
                          f"{lut.before_count} and {lut.after_count}, MD5 {md5(values).hexdigest()}"

@@ -35,6 +35,17 @@ class Lut(NamedTuple):
     after: list
 
 
+class Stages(NamedTuple):
+    """Stages of version 4: B curves, matrix and M curves, grid, nodes and A curves; None for what isn't there."""
+    inputs: int
+    curves: list
+    matrix: list
+    matrix_curves: list
+    grid: list
+    nodes: list
+    lattice_curves: list
+
+
 class Profile(NamedTuple):
     bytes: bytes
     lab: bool
@@ -129,6 +140,58 @@ def read_lut(tag, lab, inputs):
     return Lut(wide, inputs, grid, numbers(tag, 12, 4, 9, signed=True), *counts, *tables)
 
 
+def curve_size(tag):
+    """The bytes of a curve's content."""
+    return 12 + 2 * number(tag, 8, 4) if tag[:4] == b"curv" else 12 + 4 * PARAMETERS[number(tag, 8, 2)]
+
+
+def read_curves(tag, at, count):
+    """Curves one after another, each but the first at a multiple of 4 from the tag's start."""
+    curves = []
+    for _ in range(count):
+        curves.append(read_curve(tag[at:]))
+        at += curve_size(tag[at:])
+        at += -at % 4
+    return curves
+
+
+def read_stages(tag, inputs):
+    """The parts of an `mAB ` or `mBA `, walked over in the order B, matrix, M, lattice, A."""
+    needs(tag, 32)
+    b, matrix, m, lattice, a = numbers(tag, 12, 4, 5)
+    if (tag[8], tag[9]) != (inputs, 3) or not b:
+        raise Fault(9)
+    curves = read_curves(tag, b, 3)
+    if matrix:
+        needs(tag, matrix + 48)
+    if bool(m) != bool(matrix):
+        raise Fault(9)
+    m_curves = read_curves(tag, m, 3) if m else None
+    if bool(a) != bool(lattice) or not lattice and inputs != 3:
+        raise Fault(9)
+    grid = nodes = a_curves = None
+    if lattice:
+        needs(tag, lattice + 20)
+        grid, size = list(tag[lattice:lattice + inputs]), tag[lattice + 16]
+        count = 3
+        for points in grid:
+            count *= points
+        if min(grid) < 2 or size not in (1, 2):
+            raise Fault(9)
+        needs(tag, lattice + 20 + size * count)
+        nodes = [n * (257 if size == 1 else 1) for n in numbers(tag, lattice + 20, size, count)]
+        a_curves = read_curves(tag, a, inputs)
+    return Stages(inputs, curves, numbers(tag, matrix, 4, 12, signed=True) if matrix else None, m_curves, grid, nodes,
+                  a_curves)
+
+
+def read_transform(tag, lab, inputs, stages_type):
+    """A lut, or stages of this type."""
+    if len(tag) >= 8 and tag[:4] == stages_type:
+        return read_stages(tag, inputs)
+    return read_lut(tag, lab, inputs)
+
+
 def header_fault(data):
     """The fault of a header or of the tag table, up to 6."""
     if len(data) < 132:
@@ -175,9 +238,9 @@ def read(data):
                 except Fault as refusal:
                     faults.append(refusal.args[0])
 
-    use(FORWARD, read_lut, lab, channels)
+    use(FORWARD, read_transform, lab, channels, b"mAB ")
     if channels == 3:
-        use(BACKWARD, read_lut, lab, 3)
+        use(BACKWARD, read_transform, lab, 3, b"mBA ")
     if is_matrix:
         use(COLUMNS, read_xyz)
         use(CURVES, read_curve)
@@ -203,7 +266,7 @@ def id_state(data):
     return "Right" if md5(bytes(blank)).digest() == own else "Differs"
 
 
-# three small profiles
+# small profiles
 
 
 def profile(space, pcs, tags):
@@ -251,6 +314,27 @@ def mft1(inputs, grid, before, nodes, after):
             + bytes([*list(before) * inputs, *nodes, *list(after) * 3]))
 
 
+def stages(kind, inputs, b, matrix=None, m=(), grid=(), size=2, nodes=(), a=()):
+    """An `mAB ` or an `mBA ` of these parts, one after another; each list of curves begins at a multiple of four."""
+    body, places = bytearray(), []
+
+    def put(part):
+        body.extend(bytes(-len(body) % 4))
+        places.append(32 + len(body) if part else 0)
+        for piece in part:
+            body.extend(bytes(-len(body) % 4))
+            body.extend(piece)
+
+    put(b)
+    put([b"".join(n.to_bytes(4, "big", signed=True) for n in matrix)] if matrix else [])
+    put(m)
+    put([bytes(grid) + bytes(16 - len(grid)) + bytes([size, 0, 0, 0])
+         + b"".join(n.to_bytes(size, "big") for n in nodes)] if grid else [])
+    put(a)
+    head = kind + bytes(4) + bytes([inputs, 3, 0, 0]) + b"".join(n.to_bytes(4, "big") for n in places)
+    return head + bytes(body)
+
+
 MATRIX = profile(b"RGB ", b"XYZ ", {
     b"rXYZ": xyz(28578, 14583, 912),
     b"gXYZ": xyz(25241, 46981, 6363),
@@ -269,6 +353,18 @@ SHORT_LUT = profile(b"RGB ", b"Lab ", {
     b"B2A0": mft2(3, 3, [0, 65535], [800 * k for k in range(81)], [0, 65535]),
 })
 
+CURVES_THREE = [curv(0, 20000, 65535), para(0, 65536), curv()]
+STAGES_MATRIX = [65536, 0, 0, 1000, 60000, -2000, 0, 0, 65536, 10, -10, 0]
+FORWARD_STAGES = profile(b"CMYK", b"Lab ", {
+    b"A2B0": stages(b"mAB ", 4, CURVES_THREE, STAGES_MATRIX, [curv(), curv(0, 65535), curv(65535, 0)], [2, 2, 3, 2], 1,
+                    [(k * 37) % 256 for k in range(72)], [curv(), curv(1, 2, 3), curv(0, 65535), para(0, 70000)]),
+})
+BACKWARD_STAGES = profile(b"RGB ", b"XYZ ", {
+    b"A2B0": stages(b"mAB ", 3, [curv(), curv(), curv()]),
+    b"B2A0": stages(b"mBA ", 3, CURVES_THREE, STAGES_MATRIX, [curv(), curv(0, 65535), curv(65535, 0)], [2, 3, 2], 2,
+                    [(k * 4001) % 65536 for k in range(36)], [curv(), curv(1, 2, 3), curv(0, 65535)]),
+})
+
 if __name__ == "__main__":
     for data in (MATRIX, GRAY, LUT):
         assert isinstance(read(data), Profile)
@@ -283,3 +379,5 @@ if __name__ == "__main__":
     assert read(MATRIX.replace(b"curv", b"XYZ ", 1)) == 8
     assert read(MATRIX.replace(curv(512)[:12], b"curv\0\0\0\0\xff\xff\xff\xff")) == 9
     assert id_state(MATRIX) == "Absent"
+    for data in (FORWARD_STAGES, BACKWARD_STAGES):
+        assert isinstance(read(data), Profile)

@@ -8,10 +8,11 @@ use Rattle.press_fault.specs.Plane.{CodeValue}
 use Rattle.icc_tables.specs.Rounded.{rounded, clamped}
 use Rattle.icc_tables.specs.Curves.{CurveValue, curve_at, curve_back}
 use Rattle.icc_tables.specs.Lattice.{LutValue, lut_value}
+use Rattle.icc_stages.specs.Stages.{StagesValue, stages_at}
 use Rattle.icc_tables.specs.Pcs.{PcsValue, IsXyz, IsLab, in_xyz, in_lightness, in_chroma, white, xyz_to_lab, lab_to_xyz}
 use Rattle.icc_model.specs.Profile.{ProfileValue, chosen}
 use Rattle.icc_model.specs.declared.profile.Transform.{Transform}
-use Rattle.icc_model.specs.declared.profile.Transform.TheVariants.{Lut}
+use Rattle.icc_model.specs.declared.profile.Transform.TheVariants.{Lut, Stages}
 use Rattle.icc_model.specs.declared.profile.Base.{Base}
 use Rattle.icc_model.specs.declared.profile.Base.TheVariants.{Matrix, Gray}
 use Rattle.icc_model.specs.declared.profile.Intent.{Intent}
@@ -101,10 +102,29 @@ entered wide codes = map (λ c. if wide then 257 * c else c) codes
 abbrev pub lut_source : LutValue → Bool → List ℕ → PcsValue
 lut_source lut lab codes = decoded_list lut.wide lab (lut_value lut (entered lut.wide codes))
 
+-- The PCS in the values of stages: XYZ as in a lut's of 16 bits, and Lab in its own encoding of 16 bits (6.3.4.2:
+-- L* of 100 is FFFF hex, 0 of a* and b* 8080 hex).
+abbrev pub staged : Bool → ℕ → ℕ → ℕ → PcsValue
+staged false x y z = decoded true false x y z
+staged true l a b = record {
+  first = in_lightness (div_round (pos (l * 6553600)) (pos 65535));
+  second = in_chroma (div_round (pos (a * 16711680)) (pos 65535) -ℤ pos 8388608);
+  third = in_chroma (div_round (pos (b * 16711680)) (pos 65535) -ℤ pos 8388608);
+}
+
+-- the same of the three values of a list
+abbrev pub staged_list : Bool → List ℕ → PcsValue
+staged_list lab values = staged lab (slice_index values 0) (slice_index values 1) (slice_index values 2)
+
+-- PCS values of a code by stages
+abbrev pub stages_source : StagesValue → Bool → List ℕ → PcsValue
+stages_source stages lab codes = staged_list lab (stages_at stages (entered true codes))
+
 -- The PCS values of a code: by the transform for the intent, else by the matrix or the gray curve. (A profile has one
 -- of them.)
 abbrev pub source_by : Option Transform → Option Base → Bool → CodeValue → PcsValue
 source_by (Some (Lut lut)) base lab code = lut_source lut lab (take code.n code.c)
+source_by (Some (Stages stages)) base lab code = stages_source stages lab (take code.n code.c)
 source_by None (Some (Matrix columns curves)) lab code = matrix_source columns curves code.c
 source_by None (Some (Gray curve)) lab code = gray_of lab (linear_of curve (slice_index code.c 0))
 source_by None None lab code = record { first = pos 0; second = pos 0; third = pos 0 }
@@ -213,9 +233,23 @@ widened wide values = map (λ v. if wide then v else 257 * v) values
 abbrev pub lut_target : LutValue → Bool → PcsValue → List ℕ
 lut_target lut lab v = widened lut.wide (lut_value lut (counts_of (begun lut lab v)))
 
+-- PCS values in the values of stages: the other way of `staged`
+abbrev pub staged_back : Bool → PcsValue → PcsValue
+staged_back false v = encoded true false v
+staged_back true v = record {
+  first = in_16 (div_round (v.first *ℤ pos 65535) (pos 6553600));
+  second = in_16 (div_round ((v.second +ℤ pos 8388608) *ℤ pos 65535) (pos 16711680));
+  third = in_16 (div_round ((v.third +ℤ pos 8388608) *ℤ pos 65535) (pos 16711680));
+}
+
+-- the three values of 16 bits of PCS values by stages
+abbrev pub stages_target : StagesValue → Bool → PcsValue → List ℕ
+stages_target stages lab v = stages_at stages (counts_of (staged_back lab v))
+
 -- the three values of 16 bits of PCS values: by the transform for the intent, else by the matrix
 abbrev pub target_by : Option Transform → Option Base → Bool → PcsValue → List ℕ
 target_by (Some (Lut lut)) base lab v = lut_target lut lab v
+target_by (Some (Stages stages)) base lab v = stages_target stages lab v
 target_by None (Some (Matrix columns curves)) lab v = matrix_target columns curves v
 target_by None (Some (Gray curve)) lab v = 0 ∷ 0 ∷ 0 ∷ []
 target_by None None lab v = 0 ∷ 0 ∷ 0 ∷ []

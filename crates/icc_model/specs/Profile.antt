@@ -1,7 +1,7 @@
 -- Profiles as values (ICC.1:2010, 8 Required tags, 8.10 Precedence order of tag usage).
 use Rattle.std.specs.Prelude.{◌≡◌, ◌≢◌, ℕ, ◌⊎◌, Bool, true, false, List, slice_index_or, Option, Some, None}
 use Rattle.icc_model.specs.declared.profile.Transform.{Transform}
-use Rattle.icc_model.specs.declared.profile.Transform.TheVariants.{Lut}
+use Rattle.icc_model.specs.declared.profile.Transform.TheVariants.{Lut, Stages}
 use Rattle.icc_model.specs.declared.profile.Base.{Base}
 use Rattle.icc_model.specs.declared.profile.Base.TheVariants.{Matrix, Gray}
 use Rattle.icc_model.specs.declared.profile.Intent.{Intent}
@@ -37,10 +37,13 @@ nth transforms number = slice_index_or transforms number None
 unfoldable pub chosen : List (Option Transform) → Intent → Option Transform
 chosen transforms intent = or_else (nth transforms (number_of intent)) (nth transforms 0)
 
--- A transform takes the channels, and 8 bits of XYZ aren't defined (10.9 lut8Type is of PCSLAB alone).
-abbrev pub IsSuitedTransform : Bool → ℕ → Option Transform → Type 0
-IsSuitedTransform lab channels (Some (Lut lut)) = (lut.inputs ≡ channels) × (lut.wide ≡ false → lab ≡ true)
-IsSuitedTransform lab channels None = Unit {0}
+-- A transform takes the channels; 8 bits of XYZ aren't defined (10.9 lut8Type is of PCSLAB alone), and stages lead one
+-- way (10.10 lutAToBType is of AToB tags alone, 10.11 lutBToAType of BToA ones).
+abbrev pub IsSuitedTransform : Bool → Bool → ℕ → Option Transform → Type 0
+IsSuitedTransform forward lab channels (Some (Lut lut)) = (lut.inputs ≡ channels) × (lut.wide ≡ false → lab ≡ true)
+IsSuitedTransform forward lab channels (Some (Stages stages)) =
+    (stages.inputs ≡ channels) × (stages.forward ≡ forward)
+IsSuitedTransform forward lab channels None = Unit {0}
 
 -- a matrix is of RGB and XYZ, a gray curve of one channel
 abbrev pub IsBase : Bool → ℕ → Option Base → Type 0
@@ -51,8 +54,8 @@ IsBase lab channels None = Unit {0}
 -- what each profile keeps: it is a source for each intent, and only one of three channels, RGB, may have a way back
 pub record IsProfile (p : ProfileValue) : Type 0 where
   pub channels : (p.channels ≡ 1) ⊎ (p.channels ≡ 3) ⊎ (p.channels ≡ 4)
-  pub forward : (number : ℕ) → IsSuitedTransform p.lab p.channels (nth p.forward number)
-  pub backward : (number : ℕ) → IsSuitedTransform p.lab 3 (nth p.backward number)
+  pub forward : (number : ℕ) → IsSuitedTransform true p.lab p.channels (nth p.forward number)
+  pub backward : (number : ℕ) → IsSuitedTransform false p.lab 3 (nth p.backward number)
   pub rgb : (number : ℕ) → nth p.backward number ≢ None → p.channels ≡ 3
   pub base : IsBase p.lab p.channels p.base
   pub some : nth p.forward 0 ≡ None → p.base ≢ None

@@ -12,6 +12,7 @@ mod source;
 mod target;
 
 pub use colour::{carried, direct, direct_wide, narrowed, wide_values_round_back};
+pub use icc_stages::{LatticeStage, MatrixStage, Stages, backward_at, forward_at};
 pub use icc_tables::{
     Curve, Lut, NodeSize, Nodes, Pcs, SharedBytes, Values, curve_at, curve_back, lab_to_xyz,
     lattice_at, xyz_to_lab,

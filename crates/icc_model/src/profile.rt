@@ -1,9 +1,10 @@
 //! Profiles as values.
-ghost use Rattle.std.specs.Prelude.{◌≡◌, ◌≤◌, ◌<◌, ◌⊎◌, Some, None, option_map};
+ghost use Rattle.std.specs.Prelude.{◌≡◌, ◌≤◌, ◌<◌, ◌⊎◌, true, false, Some, None, option_map};
 ghost use Rattle.std.specs.Option.{option_copied};
 ghost use Rattle.md5.specs.Md5.{md5};
 ghost use Rattle.icc_model.specs.Profile.{ProfileValue, IsProfile, IsSuitedTransform, IsBase, number_of, nth, chosen};
 
+use icc_stages::Stages;
 use icc_tables::{Curve, Lut, SharedBytes};
 use md5::{Digest, Md5};
 use std::marker::Model;
@@ -35,6 +36,8 @@ impl Intent {
 pub enum Transform {
     /// By a lut of 8 or of 16 bits.
     Lut(Lut),
+    /// By the stages of version 4.
+    Stages(Stages),
 }
 
 /// What serves where no transform does.
@@ -171,7 +174,7 @@ impl Profile {
     #[tactic(auto, using(crate::proofs::Choices::suited))]
     pub fn chosen_forward(&self, intent: Intent) -> Option<&Transform>
         ensures value { option_copied result ≡ chosen self.now.forward intent }
-        ensures suited { IsSuitedTransform self.now.lab self.now.channels (option_copied result) }
+        ensures suited { IsSuitedTransform true self.now.lab self.now.channels (option_copied result) }
     {
         chosen(&self.forward, intent)
     }
@@ -180,7 +183,7 @@ impl Profile {
     #[tactic(auto, using(crate::proofs::Choices::suited))]
     pub fn chosen_backward(&self, intent: Intent) -> Option<&Transform>
         ensures value { option_copied result ≡ chosen self.now.backward intent }
-        ensures suited { IsSuitedTransform self.now.lab 3 (option_copied result) }
+        ensures suited { IsSuitedTransform false self.now.lab 3 (option_copied result) }
     {
         chosen(&self.backward, intent)
     }

@@ -6,11 +6,14 @@ ghost use Rattle.press_nums.specs.Rounding.{div_round};
 ghost use Rattle.icc_tables.specs.Lattice.{IsPoint, lut_value, top_of};
 ghost use Rattle.icc_tables.specs.Pcs.{IsXyz, IsLab, in_xyz, in_lightness, in_chroma};
 ghost use Rattle.icc_model.specs.Profile.{IsSuitedTransform, IsBase, chosen};
+ghost use Rattle.icc_stages.specs.Stages.{stages_at};
+ghost use Rattle.icc_model.specs.Direct.{staged, staged_list, stages_source};
 ghost use Rattle.icc_model.specs.Direct.{column, linear_of, mixed, of_linear, matrix_source, gray_of, decoded};
 ghost use Rattle.icc_model.specs.Direct.{decoded_list, entered, lut_source, source_by, source_of, IsIn, AreWithin};
 ghost use Rattle.icc_model.specs.Direct.{curve_of};
 
 use crate::profile::{Base, Intent, Profile, Transform};
+use icc_stages::{Stages, forward_at};
 use icc_tables::{
     Curve, Lut, Pcs, curve_at, in_chroma, in_lightness, in_xyz, of_four, of_one, of_three,
 };
@@ -135,7 +138,7 @@ fn xyz_16(v: u16) -> Wide
 /// L* of a value, of which `whole` is 100.
 fn lightness(v: u16, whole: u32) -> Wide
     requires some { 255 ≤ whole }
-    requires few { whole ≤ 65280 }
+    requires few { whole ≤ 65535 }
     ensures value { result ≡ in_lightness (div_round (pos (v * 6553600)) (pos whole)) }
     ensures low { pos 0 ≤ℤ result }
     ensures high { result ≤ℤ pos 6553600 }
@@ -224,6 +227,65 @@ fn lut_source(lut: &Lut, lab: bool, code: Code) -> Pcs
     decoded(lut.wide, lab, values_of(lut, code))
 }
 
+/// a* or b* of a value of stages, of which 8080 hex is 0.
+fn staged_chroma(v: u16) -> Wide
+    ensures value { result ≡ in_chroma (div_round (pos (v * 16711680)) (pos 65535) -ℤ pos 8388608) }
+    ensures low { neg_ℤ (pos 8388608) ≤ℤ result }
+    ensures high { result ≤ℤ pos 8388352 }
+{
+    let steps = Wide::of(i64::from(v) * 16_711_680).div_round(Wide::of(65535));
+    in_chroma(steps - Wide::of(8_388_608))
+}
+
+/// Values of stages in the connection space.
+fn staged(lab: bool, values: [u16; 3]) -> Pcs
+    ensures value { result ≡ staged_list lab values }
+    ensures range { IsIn lab result }
+{
+    let [first, second, third] = values;
+    if lab {
+        Pcs {
+            first: lightness(first, 65535),
+            second: staged_chroma(second),
+            third: staged_chroma(third),
+        }
+    } else {
+        Pcs {
+            first: xyz_16(first),
+            second: xyz_16(second),
+            third: xyz_16(third),
+        }
+    }
+}
+
+/// A code of 8 bits in 16.
+fn wide_code(c: u8) -> u16
+    ensures { result ≡ 257 * c }
+{
+    257 * u16::from(c)
+}
+
+/// The values that stages make of a code.
+fn values_by(stages: &Stages, code: Code) -> [u16; 3]
+    requires inputs { stages.now.inputs ≡ code.n }
+    requires way { stages.now.forward ≡ true }
+    ensures { result ≡ stages_at stages.now (entered true (take code.n code.c)) }
+{
+    let [a, b, c, d] = code.c;
+    let wide = [wide_code(a), wide_code(b), wide_code(c), wide_code(d)];
+    forward_at(stages, wide)
+}
+
+/// The connection space of a code, by stages.
+fn stages_source(stages: &Stages, lab: bool, code: Code) -> Pcs
+    requires inputs { stages.now.inputs ≡ code.n }
+    requires way { stages.now.forward ≡ true }
+    ensures value { result ≡ stages_source stages.now lab (take code.n code.c) }
+    ensures range { IsIn lab result }
+{
+    staged(lab, values_by(stages, code))
+}
+
 /// The connection space of a code, where a profile has no transform for the intent.
 fn base_source(base: Option<&Base>, lab: bool, channels: u8, code: Code) -> Pcs
     requires base { IsBase lab channels (option_copied base) }
@@ -257,6 +319,7 @@ pub fn source_of(profile: &Profile, intent: Intent, code: Code) -> Pcs
     match profile.chosen_forward(intent) {
         Some(transform) => match transform {
             Transform::Lut(lut) => lut_source(lut, profile.lab(), code),
+            Transform::Stages(stages) => stages_source(stages, profile.lab(), code),
         },
         None => base_source(profile.base(), profile.lab(), profile.channels(), code),
     }

@@ -9,10 +9,12 @@ ghost use Rattle.icc_model.specs.Profile.{IsSuitedTransform, IsBase};
 ghost use Rattle.icc_model.specs.Direct.{cross, dot, determinant, solved, returned, inverse_of, matrix_target};
 ghost use Rattle.icc_model.specs.Direct.{is_invertible, in_16, in_8, encoded, by_matrix, begun, counts_of, widened};
 ghost use Rattle.icc_model.specs.Direct.{lut_target, target_by, target_of, receives_by, can_receive, IsIn, AreWithin};
-ghost use Rattle.icc_model.specs.Direct.{AreCounts, column};
+ghost use Rattle.icc_stages.specs.Stages.{stages_at};
+ghost use Rattle.icc_model.specs.Direct.{AreCounts, column, staged_back, stages_target};
 
 use crate::profile::{Base, Intent, Profile, Transform};
 use crate::source::column;
+use icc_stages::{Stages, backward_at};
 use icc_tables::{Curve, Lut, Pcs, clamped, curve_back, of_three};
 use press_nums::Wide;
 
@@ -172,7 +174,7 @@ fn half(n: Wide) -> Wide
 fn lightness(l: Wide, whole: u32) -> Wide
     requires low { pos 0 ≤ℤ l }
     requires high { l ≤ℤ pos 6553600 }
-    requires whole { whole ≤ 65280 }
+    requires whole { whole ≤ 65535 }
     ensures { result ≡ div_round (l *ℤ pos whole) (pos 6553600) }
 {
     l.times(whole).div_round(Wide::of(6553600))
@@ -300,6 +302,52 @@ fn lut_target(lut: &Lut, lab: bool, v: &Pcs) -> [u16; 3]
     ]
 }
 
+/// a* or b* as a value of stages, of which 8080 hex is 0.
+fn staged_chroma(a: Wide) -> Wide
+    requires low { neg_ℤ (pos 8388608) ≤ℤ a }
+    requires high { a ≤ℤ pos 8388352 }
+    ensures value { result ≡ in_16 (div_round ((a +ℤ pos 8388608) *ℤ pos 65535) (pos 16711680)) }
+    ensures low { pos 0 ≤ℤ result }
+    ensures high { result ≤ℤ pos 65535 }
+{
+    let steps = (a + Wide::of(8_388_608)).times(65535);
+    in_16(steps.div_round(Wide::of(16_711_680)))
+}
+
+/// The values with which stages begin.
+fn staged_back(lab: bool, v: &Pcs) -> Pcs
+    requires { IsIn lab v.now }
+    ensures value { result ≡ staged_back lab v.now }
+    ensures counts { AreCounts 65535 result }
+{
+    if lab {
+        Pcs {
+            first: in_16(lightness(v.first, 65535)),
+            second: staged_chroma(v.second),
+            third: staged_chroma(v.third),
+        }
+    } else {
+        encoded_xyz(v)
+    }
+}
+
+/// The three values of 16 bits of the connection space, by stages.
+fn stages_target(stages: &Stages, lab: bool, v: &Pcs) -> [u16; 3]
+    requires way { stages.now.forward ≡ false }
+    requires v { IsIn lab v.now }
+    ensures { result ≡ stages_target stages.now lab v.now }
+{
+    let begun = staged_back(lab, v);
+    backward_at(
+        stages,
+        [
+            count_of(begun.first),
+            count_of(begun.second),
+            count_of(begun.third),
+        ],
+    )
+}
+
 /// The three values of a target that has no transform for the intent.
 fn base_target(base: Option<&Base>, lab: bool, channels: u8, v: &Pcs) -> [u16; 3]
     requires base { IsBase lab channels (option_copied base) }
@@ -327,6 +375,7 @@ pub fn target_of(profile: &Profile, intent: Intent, v: &Pcs) -> [u16; 3]
     match profile.chosen_backward(intent) {
         Some(transform) => match transform {
             Transform::Lut(lut) => lut_target(lut, profile.lab(), v),
+            Transform::Stages(stages) => stages_target(stages, profile.lab(), v),
         },
         None => base_target(profile.base(), profile.lab(), profile.channels(), v),
     }

@@ -16,4 +16,4 @@ pub use fields::{s15_at, u16_at, u32_at};
 pub use laws::an_exponent_curve_rises;
 pub use parametric::power_curve;
 pub use powers::power;
-pub use tag::{CurveFault, curve_of_tag, has_other_type, is_misshapen, read_curve};
+pub use tag::{CurveFault, curve_of_tag, has_other_type, is_misshapen, read_curve, size_of};

@@ -231,6 +231,21 @@ fn para_curve(alloc: Global, tag: &[u8]) -> Mem<Curve>
     curve_of(alloc, &parameters_of(tag))
 }
 
+/// How many bytes of a tag that has a curve are read.
+#[tactic(auto, using(crate::proofs::Shapes::curv_of, crate::proofs::Shapes::para_of, crate::proofs::Shapes::eight_of))]
+pub fn size_of(tag: &[u8]) -> usize
+    requires good { is_misshapen tag.now ≡ false }
+    requires known { has_other_type tag.now ≡ false }
+    ensures value { result ≡ size_of tag.now }
+    ensures inside { result ≤ length tag.now }
+{
+    if is_curv(tag) {
+        12 + 2 * u32_at(tag, 8) as usize
+    } else {
+        12 + 4 * parameter_count(u16_at(tag, 8))
+    }
+}
+
 /// The curve of a tag that has one, and how many bytes of it are read.
 #[tactic(auto, using(crate::proofs::Shapes::curv_of, crate::proofs::Shapes::para_of, crate::proofs::Shapes::eight_of), unfolding(crate::specs::CurveTag::curve_of))]
 pub fn curve_of_tag(alloc: Global, tag: &[u8]) -> Mem<(Curve, usize)>

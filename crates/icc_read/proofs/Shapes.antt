@@ -6,6 +6,11 @@ use Rattle.std.proofs.lemmas.Bool.{ltb-false, le-leb, eqb-true, false≢true}
 use Rattle.proof_words.proofs.Cases.{by_bool}
 use Rattle.icc_power.proofs.Shapes.{or_first, or_second}
 use Rattle.icc_power.specs.CurveTag.{type_of}
+use Rattle.std.proofs.Common.{Option, Some, None}
+use Rattle.icc_v4lut.specs.StagesTag.{stages_fault}
+use Rattle.icc_v4lut.specs.declared.faults.PartFault.{PartFault}
+use Rattle.icc_v4lut.specs.declared.faults.PartFault.TheVariants.{Kind, Shape}
+use Rattle.icc_read.specs.Content.{is_stages, is_kind, is_shape}
 use Rattle.icc_read.specs.Content.{is_other_transform, is_bad_transform, is_bad_mft1, is_bad_mft2, has_bad_grid}
 use Rattle.icc_read.specs.Content.{before_count, after_count, is_bad_count, mft1_size, mft2_size, mft1, mft2}
 use Rattle.icc_read.specs.Code.Premises.{IsMft1, IsMft2}
@@ -90,34 +95,62 @@ mft2_of inputs tag h =
     }
 
 -- a transform that isn't misshapen has a type
-pub transform_long : (inputs : ℕ) (tag : List ℕ) → is_bad_transform inputs tag ≡ false → 8 ≤ length tag
+pub transform_long : (way : Bool) (inputs : ℕ) (tag : List ℕ) → is_bad_transform way inputs tag ≡ false →
+    8 ≤ length tag
 unfolding is_bad_transform
-transform_long inputs tag h = by_bool (ltb (length tag) 8)
+transform_long way inputs tag h = by_bool (ltb (length tag) 8)
     (λ e. absurd (false≢true (sym (rw e at h))))
     (λ e. ltb-false (length tag) 8 e)
 
--- where that is `mft2`, it is a lut of 16 bits
-pub mft2_is : (inputs : ℕ) (tag : List ℕ) → is_bad_transform inputs tag ≡ false → (type_of tag == mft2) ≡ true →
-    IsMft2 inputs tag
+-- stages without a fault
+pub no_fault : (fault : Option PartFault) → is_kind fault ≡ false → is_shape fault ≡ false → fault ≡ None
+no_fault None h f = refl
+no_fault (Some Kind) h f = absurd (false≢true (sym h))
+no_fault (Some Shape) h f = absurd (false≢true (sym f))
+
+kind_none : (way : Bool) (inputs : ℕ) (lab : Bool) (tag : List ℕ) → 8 ≤ length tag →
+    is_other_transform way inputs lab tag ≡ false → is_stages way tag ≡ true →
+    is_kind (stages_fault inputs tag) ≡ false
+unfolding is_other_transform
+kind_none way inputs lab tag long h stages = rw (le-leb 8 (length tag) long, stages) at h
+
+shape_none : (way : Bool) (inputs : ℕ) (tag : List ℕ) → is_bad_transform way inputs tag ≡ false →
+    is_stages way tag ≡ true → is_shape (stages_fault inputs tag) ≡ false
 unfolding is_bad_transform
-mft2_is inputs tag h wide = by_bool (ltb (length tag) 8)
+shape_none way inputs tag h stages = by_bool (ltb (length tag) 8)
     (λ e. absurd (false≢true (sym (rw e at h))))
-    (λ e. mft2_of inputs tag (rw (e, wide) at h))
+    (λ e. rw (e, stages) at h)
+
+-- where the type of a transform is that of stages, it has those
+pub stages_good : (way : Bool) (inputs : ℕ) (lab : Bool) (tag : List ℕ) →
+    is_other_transform way inputs lab tag ≡ false → is_bad_transform way inputs tag ≡ false →
+    is_stages way tag ≡ true → stages_fault inputs tag ≡ None
+stages_good way inputs lab tag h f stages = no_fault (stages_fault inputs tag)
+    (kind_none way inputs lab tag (transform_long way inputs tag f) h stages) (shape_none way inputs tag f stages)
+
+-- where that is `mft2`, it is a lut of 16 bits
+pub mft2_is : (way : Bool) (inputs : ℕ) (tag : List ℕ) → is_bad_transform way inputs tag ≡ false →
+    is_stages way tag ≡ false → (type_of tag == mft2) ≡ true → IsMft2 inputs tag
+unfolding is_bad_transform
+mft2_is way inputs tag h other wide = by_bool (ltb (length tag) 8)
+    (λ e. absurd (false≢true (sym (rw e at h))))
+    (λ e. mft2_of inputs tag (rw (e, other, wide) at h))
 
 -- else it is one of 8 bits
-pub mft1_is : (inputs : ℕ) (tag : List ℕ) → is_bad_transform inputs tag ≡ false → (type_of tag == mft2) ≡ false →
-    IsMft1 inputs tag
+pub mft1_is : (way : Bool) (inputs : ℕ) (tag : List ℕ) → is_bad_transform way inputs tag ≡ false →
+    is_stages way tag ≡ false → (type_of tag == mft2) ≡ false → IsMft1 inputs tag
 unfolding is_bad_transform
-mft1_is inputs tag h wide = by_bool (ltb (length tag) 8)
+mft1_is way inputs tag h other wide = by_bool (ltb (length tag) 8)
     (λ e. absurd (false≢true (sym (rw e at h))))
-    (λ e. mft1_of inputs tag (rw (e, wide) at h))
+    (λ e. mft1_of inputs tag (rw (e, other, wide) at h))
 
 -- and of the connection space Lab
-pub mft1_lab : (is_lab : Bool) (tag : List ℕ) → 8 ≤ length tag → is_other_transform is_lab tag ≡ false →
-    (type_of tag == mft2) ≡ false → is_lab ≡ true
+pub mft1_lab : (way : Bool) (inputs : ℕ) (is_lab : Bool) (tag : List ℕ) → 8 ≤ length tag →
+    is_other_transform way inputs is_lab tag ≡ false → is_stages way tag ≡ false → (type_of tag == mft2) ≡ false →
+    is_lab ≡ true
 unfolding is_other_transform
-mft1_lab true tag long h wide = refl
-mft1_lab false tag long h wide =
+mft1_lab way inputs true tag long h other wide = refl
+mft1_lab way inputs false tag long h other wide =
     absurd (by_bool (type_of tag == mft1)
-    (λ e. false≢true (sym (rw (le-leb 8 (length tag) long, wide, e) at h)))
-    (λ e. false≢true (sym (rw (le-leb 8 (length tag) long, wide, e) at h))))
+    (λ e. false≢true (sym (rw (le-leb 8 (length tag) long, other, wide, e) at h)))
+    (λ e. false≢true (sym (rw (le-leb 8 (length tag) long, other, wide, e) at h))))

@@ -192,14 +192,14 @@ there_third bytes a b c h = and_first (has_tag bytes c) true (and_second (has_ta
     (and_second (has_tag bytes a) (has_tag bytes b && (has_tag bytes c && true)) h))
 
 -- a list of three transforms that take the channels
-pub three_suited : (is_lab : Bool) (inputs : ℕ) (a b c : Option Transform) → IsSuitedTransform is_lab inputs a →
-    IsSuitedTransform is_lab inputs b → IsSuitedTransform is_lab inputs c →
-    AreSuited is_lab inputs (a ∷ b ∷ c ∷ [])
-three_suited is_lab inputs a b c f g h zero = f
-three_suited is_lab inputs a b c f g h (suc zero) = g
-three_suited is_lab inputs a b c f g h (suc (suc zero)) = h
-three_suited is_lab inputs a b c f g h (suc (suc (suc number))) = tt
+pub three_suited : (way is_lab : Bool) (inputs : ℕ) (a b c : Option Transform) →
+    IsSuitedTransform way is_lab inputs a → IsSuitedTransform way is_lab inputs b →
+    IsSuitedTransform way is_lab inputs c → AreSuited way is_lab inputs (a ∷ b ∷ c ∷ [])
+three_suited way is_lab inputs a b c f g h zero = f
+three_suited way is_lab inputs a b c f g h (suc zero) = g
+three_suited way is_lab inputs a b c f g h (suc (suc zero)) = h
+three_suited way is_lab inputs a b c f g h (suc (suc (suc number))) = tt
 
 -- no transforms take any channels
-pub none_suited : (is_lab : Bool) (inputs : ℕ) → AreSuited is_lab inputs (None ∷ None ∷ None ∷ [])
-none_suited is_lab inputs = three_suited is_lab inputs None None None tt tt tt
+pub none_suited : (way is_lab : Bool) (inputs : ℕ) → AreSuited way is_lab inputs (None ∷ None ∷ None ∷ [])
+none_suited way is_lab inputs = three_suited way is_lab inputs None None None tt tt tt

@@ -79,8 +79,8 @@ none_of f g None h = refl
 none_of f g (Some x) h = absurd (none-some (g (f x)) (sym h))
 
 no_tag : (bytes : List ℕ) (inputs signature : ℕ) →
-    option_map (transform_of inputs) (tag_of bytes signature) ≡ None → has_tag bytes signature ≡ false
-no_tag bytes inputs signature h = none_of (bytes_of bytes) (transform_of inputs) (entry_of bytes signature) h
+    option_map (transform_of true inputs) (tag_of bytes signature) ≡ None → has_tag bytes signature ≡ false
+no_tag bytes inputs signature h = none_of (bytes_of bytes) (transform_of true inputs) (entry_of bytes signature) h
 
 -- no transform is there
 no_transform : (number : ℕ) → nth (None ∷ None ∷ None ∷ []) number ≡ None
@@ -96,7 +96,8 @@ backward_rgb bytes number h = by_bool (is_rgb bytes)
 
 -- the parts are those of a profile
 pub whole_profile : (bytes taken : List ℕ) → IsSound bytes →
-    AreSuited (is_lab bytes) (channels_of bytes) (forward_of bytes) → AreSuited (is_lab bytes) 3 (backward_of bytes) →
+    AreSuited true (is_lab bytes) (channels_of bytes) (forward_of bytes) →
+    AreSuited false (is_lab bytes) 3 (backward_of bytes) →
     IsProfile (record {
       bytes = taken;
       lab = is_lab bytes;
@@ -118,7 +119,7 @@ whole_profile bytes taken h to from = record {
 pub parts_fit : (bytes taken : List ℕ) (lab : Bool) (channels : ℕ) (base : Option Base)
     (forward backward : List (Option Transform)) → IsSound bytes → lab ≡ is_lab bytes →
     channels ≡ channels_of bytes → base ≡ base_of bytes → forward ≡ forward_of bytes → backward ≡ backward_of bytes →
-    AreSuited (is_lab bytes) (channels_of bytes) forward → AreSuited (is_lab bytes) 3 backward →
+    AreSuited true (is_lab bytes) (channels_of bytes) forward → AreSuited false (is_lab bytes) 3 backward →
     IsProfile (record {
       bytes = taken;
       lab = lab;
@@ -129,5 +130,5 @@ pub parts_fit : (bytes taken : List ℕ) (lab : Bool) (channels : ℕ) (base : O
     })
 parts_fit bytes taken lab channels base forward backward h lab_is channels_is base_is to_is from_is to from =
     rw (lab_is, channels_is, base_is, to_is, from_is) (whole_profile bytes taken h
-    (subst (λ (ts : List (Option Transform)). AreSuited (is_lab bytes) (channels_of bytes) ts) to_is to)
-    (subst (λ (ts : List (Option Transform)). AreSuited (is_lab bytes) 3 ts) from_is from))
+    (subst (λ (ts : List (Option Transform)). AreSuited true (is_lab bytes) (channels_of bytes) ts) to_is to)
+    (subst (λ (ts : List (Option Transform)). AreSuited false (is_lab bytes) 3 ts) from_is from))

@@ -2,15 +2,18 @@
 -- parametricCurveType, 10.29 XYZType). Own rule: a tag's type is asked from 8 bytes on; a shorter one is shorter than
 -- its content.
 use Rattle.std.specs.Prelude.{ℕ, ◌+◌, ◌*◌, ◌^◌, ◌==◌, ◌||◌, ◌&&◌, Bool, not, nat_le, nat_lt, List, length}
-use Rattle.std.specs.Prelude.{slice_index, codes, true, if◌then◌else◌}
+use Rattle.std.specs.Prelude.{slice_index, codes, true, false, if◌then◌else◌, Option, Some, None}
 use Rattle.byteorder.specs.Endian.{big_number}
 use Rattle.icc_power.specs.CurveTag as curve
 use Rattle.icc_power.specs.CurveTag.{u16_at, type_of}
+use Rattle.icc_v4lut.specs.StagesTag.{stages_type, stages_fault}
+use Rattle.icc_v4lut.specs.declared.faults.PartFault.{PartFault}
+use Rattle.icc_v4lut.specs.declared.faults.PartFault.TheVariants.{Kind, Shape}
 use Rattle.icc_read.specs.Table.{xyz}
 use Rattle.icc_read.specs.declared.content.Content.{Content}
 use Rattle.icc_read.specs.declared.content.Content.TheVariants.{Transform, Column, Curve}
 
--- the types of transforms: luts of 8 and of 16 bits
+-- the type of a lut of 8 bits (10.9)
 abbrev pub mft1 : ℕ
 mft1 = big_number 4 (codes "mft1")
 
@@ -26,10 +29,29 @@ is_other_column tag = nat_le 8 (length tag) && not (type_of tag == xyz)
 unfoldable pub is_bad_column : List ℕ → Bool
 is_bad_column tag = nat_lt (length tag) 20
 
--- Another type than a transform has; one of 8 bits is of the connection space Lab alone (10.9).
-unfoldable pub is_other_transform : Bool → List ℕ → Bool
-is_other_transform is_lab tag =
-    nat_le 8 (length tag) && not (type_of tag == mft2 || (type_of tag == mft1 && is_lab))
+-- the type of the stages of this way (10.10 lutAToBType, 10.11 lutBToAType)
+abbrev pub is_stages : Bool → List ℕ → Bool
+is_stages forward tag = type_of tag == stages_type forward
+
+-- whether a fault of stages is that of a curve's type
+abbrev pub is_kind : Option PartFault → Bool
+is_kind (Some Kind) = true
+is_kind (Some Shape) = false
+is_kind None = false
+
+-- whether it is one of the shape
+abbrev pub is_shape : Option PartFault → Bool
+is_shape (Some Kind) = false
+is_shape (Some Shape) = true
+is_shape None = false
+
+-- Another type than a transform has; one of 8 bits is of the connection space Lab alone (10.9). Of stages it is that of
+-- a curve among them.
+unfoldable pub is_other_transform : Bool → ℕ → Bool → List ℕ → Bool
+is_other_transform forward inputs is_lab tag =
+    nat_le 8 (length tag)
+    && (if is_stages forward tag then is_kind (stages_fault inputs tag)
+    else not (type_of tag == mft2 || (type_of tag == mft1 && is_lab)))
 
 -- other channels than a transform's, or fewer than two grid points
 abbrev pub has_bad_grid : ℕ → List ℕ → Bool
@@ -72,20 +94,21 @@ is_bad_mft2 inputs tag =
     || is_bad_count (after_count tag) || nat_lt (length tag) (mft2_size inputs tag)
 
 -- a transform is misshapen
-unfoldable pub is_bad_transform : ℕ → List ℕ → Bool
-is_bad_transform inputs tag =
+unfoldable pub is_bad_transform : Bool → ℕ → List ℕ → Bool
+is_bad_transform forward inputs tag =
     if nat_lt (length tag) 8 then true
+    else if is_stages forward tag then is_shape (stages_fault inputs tag)
     else if type_of tag == mft2 then is_bad_mft2 inputs tag
     else is_bad_mft1 inputs tag
 
 -- a tag of 8 bytes or more has another type than its kind has
 abbrev pub has_other_type : Content → List ℕ → Bool
-has_other_type (Transform inputs is_lab) tag = is_other_transform is_lab tag
+has_other_type (Transform forward inputs is_lab) tag = is_other_transform forward inputs is_lab tag
 has_other_type Column tag = is_other_column tag
 has_other_type Curve tag = curve.has_other_type tag
 
 -- a tag is shorter than its content, or has numbers that its kind hasn't
 abbrev pub is_misshapen : Content → List ℕ → Bool
-is_misshapen (Transform inputs is_lab) tag = is_bad_transform inputs tag
+is_misshapen (Transform forward inputs is_lab) tag = is_bad_transform forward inputs tag
 is_misshapen Column tag = is_bad_column tag
 is_misshapen Curve tag = curve.is_misshapen tag

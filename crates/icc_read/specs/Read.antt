@@ -1,6 +1,6 @@
 -- What a profile's bytes say (ICC.1:2010, 10.5 curveType, 10.8 lut16Type, 10.9 lut8Type, 10.16 parametricCurveType,
 -- 10.29 XYZType): the value of bytes that have no fault.
-use Rattle.std.specs.Prelude.{ℕ, ◌+◌, ◌*◌, ◌==◌, true, false, List, [], ◌∷◌, map, take, slice_index}
+use Rattle.std.specs.Prelude.{ℕ, ◌+◌, ◌*◌, ◌==◌, Bool, true, false, List, [], ◌∷◌, map, take, slice_index}
 use Rattle.std.specs.Prelude.{Option, Some, None, option_map, ℤ, if◌then◌else◌}
 use Rattle.std.specs.Option.{option_map_or}
 use Rattle.std.specs.List.{range_with_len, flat_map}
@@ -11,11 +11,12 @@ use Rattle.icc_tables.specs.declared.nodes.NodeSize.TheVariants.{Byte, Word}
 use Rattle.icc_power.specs.CurveTag.{u16_at, s15_at, type_of, curve_of}
 use Rattle.icc_model.specs.Profile.{ProfileValue}
 use Rattle.icc_model.specs.declared.profile.Transform.{Transform}
-use Rattle.icc_model.specs.declared.profile.Transform.TheVariants.{Lut}
+use Rattle.icc_model.specs.declared.profile.Transform.TheVariants.{Lut, Stages}
 use Rattle.icc_model.specs.declared.profile.Base.{Base}
 use Rattle.icc_model.specs.declared.profile.Base.TheVariants.{Matrix, Gray}
 use Rattle.icc_read.specs.Table.{size_field, tag_of}
-use Rattle.icc_read.specs.Content.{mft2, node_count, before_count, after_count}
+use Rattle.icc_v4lut.specs.StagesTag.{stages_of}
+use Rattle.icc_read.specs.Content.{is_stages, mft2, node_count, before_count, after_count}
 use Rattle.icc_read.specs.Tags.{forward_tags, backward_tags, column_tags, curve_tags, gray_tag}
 use Rattle.icc_read.specs.Tags.{has_matrix, has_gray_curve}
 use Rattle.icc_read.specs.Tags.{channels_of, is_lab, is_rgb}
@@ -61,13 +62,15 @@ lut16 inputs tag = record {
 }
 
 -- the transform of a tag
-unfoldable pub transform_of : ℕ → List ℕ → Transform
-transform_of inputs tag = Lut (if type_of tag == mft2 then lut16 inputs tag else lut8 inputs tag)
+unfoldable pub transform_of : Bool → ℕ → List ℕ → Transform
+transform_of forward inputs tag =
+    if is_stages forward tag then Stages (stages_of forward inputs tag)
+    else Lut (if type_of tag == mft2 then lut16 inputs tag else lut8 inputs tag)
 
 -- the transforms of these signatures, those that are there
-abbrev pub transforms_of : List ℕ → ℕ → List ℕ → List (Option Transform)
-transforms_of bytes inputs signatures =
-    map (λ signature. option_map (transform_of inputs) (tag_of bytes signature)) signatures
+abbrev pub transforms_of : List ℕ → Bool → ℕ → List ℕ → List (Option Transform)
+transforms_of bytes forward inputs signatures =
+    map (λ signature. option_map (transform_of forward inputs) (tag_of bytes signature)) signatures
 
 -- the three numbers of a column
 abbrev pub column_of : List ℕ → ℕ → List ℤ
@@ -87,11 +90,11 @@ base_of bytes =
 
 -- the transforms to the connection space
 abbrev pub forward_of : List ℕ → List (Option Transform)
-forward_of bytes = transforms_of bytes (channels_of bytes) forward_tags
+forward_of bytes = transforms_of bytes true (channels_of bytes) forward_tags
 
 -- the transforms from it, which only a profile of RGB has
 abbrev pub backward_of : List ℕ → List (Option Transform)
-backward_of bytes = if is_rgb bytes then transforms_of bytes 3 backward_tags else None ∷ None ∷ None ∷ []
+backward_of bytes = if is_rgb bytes then transforms_of bytes false 3 backward_tags else None ∷ None ∷ None ∷ []
 
 -- the value of a profile, which is the first `size` bytes
 unfoldable pub profile_of : List ℕ → ProfileValue

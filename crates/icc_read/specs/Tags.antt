@@ -1,6 +1,6 @@
 -- The tags that a profile uses (ICC.1:2010, 8 Required tags, 9.2 Tag listing). Own rule: tags that it doesn't use
 -- aren't looked at.
-use Rattle.std.specs.Prelude.{ℕ, ◌==◌, ◌||◌, ◌&&◌, Bool, false, not, List, [], ◌∷◌, codes, is_some}
+use Rattle.std.specs.Prelude.{ℕ, ◌==◌, ◌||◌, ◌&&◌, Bool, true, false, not, List, [], ◌∷◌, codes, is_some}
 use Rattle.std.specs.Option.{option_map_or}
 use Rattle.std.specs.Prelude.{if◌then◌else◌}
 use Rattle.std.specs.List.{list_any, list_all}
@@ -66,11 +66,11 @@ any_tag bytes fails signatures =
 
 -- what the transforms of a profile to its connection space are
 abbrev pub forward_content : List ℕ → Content
-forward_content bytes = Transform (channels_of bytes) (is_lab bytes)
+forward_content bytes = Transform true (channels_of bytes) (is_lab bytes)
 
 -- what the transforms from its connection space are: those give three channels
 abbrev pub backward_content : List ℕ → Content
-backward_content bytes = Transform 3 (is_lab bytes)
+backward_content bytes = Transform false 3 (is_lab bytes)
 
 -- Whether a used tag fails the test of its kind. Used are the transforms to the connection space; those from it where
 -- the colour space is RGB; what is there of the matrix where it is RGB and the connection space XYZ; the curve of gray

@@ -3,22 +3,33 @@ ghost use Rattle.std.specs.Prelude.{◌≡◌, ◌≤◌, ◌<◌, ◌+◌, ◌*
 ghost use Rattle.icc_power.specs.CurveTag.{type_of};
 ghost use Rattle.icc_read.specs.Content.{is_other_column, is_bad_column, is_other_transform, has_bad_grid, node_count};
 ghost use Rattle.icc_read.specs.Content.{is_bad_count, is_bad_mft1, is_bad_mft2, is_bad_transform, mft2, mft1};
-ghost use Rattle.icc_read.specs.Content.{has_other_type, is_misshapen, mft2_size};
+ghost use Rattle.icc_read.specs.Content.{has_other_type, is_misshapen, mft2_size, is_stages, is_kind, is_shape};
 ghost use Rattle.icc_read.specs.Code.Premises.{IsChannels, HasChannels};
 
 use crate::table::XYZ;
 use icc_power::{u16_at, u32_at};
+use icc_v4lut::{PartFault, stages_fault};
 
 /// The type of a lut of 8 bits.
 const MFT1: u32 = 0x6d66_7431;
 /// The type of a lut of 16 bits.
 const MFT2: u32 = 0x6d66_7432;
 
+/// The type of stages to the connection space.
+const MAB: u32 = 0x6d41_4220;
+/// The type of stages from it.
+const MBA: u32 = 0x6d42_4120;
+
 /// What a used tag is.
 #[derive(Clone, Copy, Debug, PartialEq, Eq)]
 pub(crate) enum Content {
-    /// A transform of so many input channels, with the connection space Lab, else XYZ.
-    Transform { inputs: u8, lab: bool },
+    /// A transform to the connection space, else from it, of so many input channels, with the
+    /// connection space Lab, else XYZ.
+    Transform {
+        forward: bool,
+        inputs: u8,
+        lab: bool,
+    },
     /// A column of the matrix.
     Column,
     /// A curve.
@@ -60,13 +71,49 @@ fn is_bad_column(tag: &[u8]) -> bool
     tag.len() < 20
 }
 
-/// Whether a tag of 8 bytes or more is of another type than a transform.
+/// Whether the type is that of the stages of this way.
+pub(crate) fn is_stages(forward: bool, tag: &[u8]) -> bool
+    requires { 4 ≤ length tag.now }
+    ensures { result ≡ is_stages forward tag.now }
+{
+    let stages = if forward { MAB } else { MBA };
+    u32_at(tag, 0) == stages
+}
+
+/// Whether a fault of stages is that of a curve's type.
+fn is_kind(fault: Option<PartFault>) -> bool
+    ensures { result ≡ is_kind fault }
+{
+    match fault {
+        Some(PartFault::Kind) => true,
+        Some(PartFault::Shape) => false,
+        None => false,
+    }
+}
+
+/// Whether it is one of the shape.
+fn is_shape(fault: Option<PartFault>) -> bool
+    ensures { result ≡ is_shape fault }
+{
+    match fault {
+        Some(PartFault::Kind) => false,
+        Some(PartFault::Shape) => true,
+        None => false,
+    }
+}
+
+/// Whether a tag of 8 bytes or more is of another type than a transform, or has stages with a curve
+/// of another type than curves have.
 #[tactic(auto, unfolding(crate::specs::Content::is_other_transform))]
-fn is_other_transform(lab: bool, tag: &[u8]) -> bool
-    ensures { result ≡ is_other_transform lab tag.now }
+fn is_other_transform(forward: bool, inputs: u8, lab: bool, tag: &[u8]) -> bool
+    requires { IsChannels inputs }
+    ensures { result ≡ is_other_transform forward inputs lab tag.now }
 {
     if tag.len() < 8 {
         return false;
+    }
+    if is_stages(forward, tag) {
+        return is_kind(stages_fault(inputs, tag));
     }
     if is_mft2(tag) {
         return false;
@@ -177,12 +224,15 @@ fn is_bad_mft2(inputs: u8, tag: &[u8]) -> bool
 
 /// Whether a transform is misshapen.
 #[tactic(auto, unfolding(crate::specs::Content::is_bad_transform))]
-fn is_bad_transform(inputs: u8, tag: &[u8]) -> bool
+fn is_bad_transform(forward: bool, inputs: u8, tag: &[u8]) -> bool
     requires { IsChannels inputs }
-    ensures { result ≡ is_bad_transform inputs tag.now }
+    ensures { result ≡ is_bad_transform forward inputs tag.now }
 {
     if tag.len() < 8 {
         return true;
+    }
+    if is_stages(forward, tag) {
+        return is_shape(stages_fault(inputs, tag));
     }
     if is_mft2(tag) {
         is_bad_mft2(inputs, tag)
@@ -193,10 +243,15 @@ fn is_bad_transform(inputs: u8, tag: &[u8]) -> bool
 
 /// Whether a tag of 8 bytes or more is of another type than its kind has.
 pub(crate) fn has_other_type(content: Content, tag: &[u8]) -> bool
+    requires { HasChannels content }
     ensures { result ≡ has_other_type content tag.now }
 {
     match content {
-        Content::Transform { inputs: _, lab } => is_other_transform(lab, tag),
+        Content::Transform {
+            forward,
+            inputs,
+            lab,
+        } => is_other_transform(forward, inputs, lab, tag),
         Content::Column => is_other_column(tag),
         Content::Curve => icc_power::has_other_type(tag),
     }
@@ -208,7 +263,11 @@ pub(crate) fn is_misshapen(content: Content, tag: &[u8]) -> bool
     ensures { result ≡ is_misshapen content tag.now }
 {
     match content {
-        Content::Transform { inputs, lab: _ } => is_bad_transform(inputs, tag),
+        Content::Transform {
+            forward,
+            inputs,
+            lab: _,
+        } => is_bad_transform(forward, inputs, tag),
         Content::Column => is_bad_column(tag),
         Content::Curve => icc_power::is_misshapen(tag),
     }

@@ -3,15 +3,17 @@ ghost use Rattle.std.specs.Prelude.{◌≡◌, ◌≤◌, ◌+◌, ◌*◌, fals
 ghost use Rattle.press_nums.specs.Whole.{IsWhole};
 ghost use Rattle.icc_power.specs.CurveTag.{s15_at};
 ghost use Rattle.icc_tables.specs.Lattice.{AreAtMost};
-ghost use Rattle.icc_tables.specs.Stored.{size_of, most_of, nodes_of};
+ghost use Rattle.icc_tables.specs.Stored.{nodes_of, IsTagAt};
 ghost use Rattle.icc_model.specs.Profile.{IsSuitedTransform};
 ghost use Rattle.icc_read.specs.Content.{is_other_transform, is_bad_transform};
 ghost use Rattle.icc_read.specs.Read.{signed_numbers, bytes_from, words_from, lut8, lut16, transform_of};
-ghost use Rattle.icc_read.specs.Code.Premises.{IsChannels, IsMft1, IsMft2, IsTagAt};
+ghost use Rattle.icc_read.specs.Code.Premises.{IsChannels, IsMft1, IsMft2};
 
-use crate::content::{is_mft2, node_count};
+use crate::content::{is_mft2, is_stages, node_count};
 use icc_model::{Lut, NodeSize, Nodes, SharedBytes, Transform, Values};
 use icc_power::{s15_at, u16_at};
+use icc_tables::nodes_of_tag;
+use icc_v4lut::stages_of;
 use press_fault::Mem;
 use std::alloc::Global;
 
@@ -72,26 +74,8 @@ fn words_from(alloc: Global, tag: &[u8], at: usize, count: usize) -> Mem<Values>
     Ok(Values::from_vec(values))
 }
 
-/// So many nodes of a lattice, from a place of a tag on. They stand in the profile's bytes, and take
-/// no memory beside these.
-fn nodes_from(
-    bytes: &SharedBytes,
-    offset: usize,
-    tag: &[u8],
-    at: usize,
-    count: usize,
-    size: NodeSize,
-) -> Mem<Nodes>
-    requires place { IsTagAt bytes.now offset tag.now }
-    requires inside { at + size_of size * count ≤ length tag.now }
-    ensures items { IfOk result (λ nodes. nodes ≡ nodes_of size tag.now at count) }
-    ensures length { IfOk result (λ nodes. length nodes ≡ count) }
-    ensures most { IfOk result (AreAtMost (most_of size)) }
-{
-    Ok(Nodes::new(bytes.share()?, offset + at, count, size))
-}
-
-/// Such nodes of one byte each.
+/// So many nodes of one byte each, from a place of a tag on. They stand in the profile's bytes, and
+/// take no memory beside these.
 fn bytes_in(bytes: &SharedBytes, offset: usize, tag: &[u8], at: usize, count: usize) -> Mem<Nodes>
     requires place { IsTagAt bytes.now offset tag.now }
     requires inside { at + count ≤ length tag.now }
@@ -99,7 +83,7 @@ fn bytes_in(bytes: &SharedBytes, offset: usize, tag: &[u8], at: usize, count: us
     ensures length { IfOk result (λ nodes. length nodes ≡ count) }
     ensures most { IfOk result (AreAtMost 255) }
 {
-    nodes_from(bytes, offset, tag, at, count, NodeSize::Byte)
+    Ok(nodes_of_tag(bytes, offset, tag, at, count, NodeSize::Byte)?)
 }
 
 /// Such nodes of two bytes each.
@@ -110,7 +94,7 @@ fn words_in(bytes: &SharedBytes, offset: usize, tag: &[u8], at: usize, count: us
     ensures length { IfOk result (λ nodes. length nodes ≡ count) }
     ensures most { IfOk result (AreAtMost 65535) }
 {
-    nodes_from(bytes, offset, tag, at, count, NodeSize::Word)
+    Ok(nodes_of_tag(bytes, offset, tag, at, count, NodeSize::Word)?)
 }
 
 /// A lut of 8 bits.
@@ -168,6 +152,7 @@ fn lut16(alloc: Global, inputs: u8, bytes: &SharedBytes, offset: usize, tag: &[u
 #[tactic(auto, using(crate::proofs::Shapes::transform_long), unfolding(crate::specs::Read::transform_of))]
 pub(crate) fn transform_of(
     alloc: Global,
+    forward: bool,
     lab: bool,
     inputs: u8,
     bytes: &SharedBytes,
@@ -176,11 +161,15 @@ pub(crate) fn transform_of(
 ) -> Mem<Transform>
     requires place { IsTagAt bytes.now offset tag.now }
     requires channels { IsChannels inputs }
-    requires known { is_other_transform lab tag.now ≡ false }
-    requires shape { is_bad_transform inputs tag.now ≡ false }
-    ensures value { IfOk result (λ transform. transform ≡ transform_of inputs tag.now) }
-    ensures suited { IfOk result (λ transform. IsSuitedTransform lab inputs (Some transform)) }
+    requires way { forward ≡ false → inputs ≡ 3 }
+    requires known { is_other_transform forward inputs lab tag.now ≡ false }
+    requires shape { is_bad_transform forward inputs tag.now ≡ false }
+    ensures value { IfOk result (λ transform. transform ≡ transform_of forward inputs tag.now) }
+    ensures suited { IfOk result (λ transform. IsSuitedTransform forward lab inputs (Some transform)) }
 {
+    if is_stages(forward, tag) {
+        return Ok(Transform::Stages(stages_of(alloc, forward, inputs, bytes, offset, tag)?));
+    }
     if is_mft2(tag) {
         Ok(Transform::Lut(lut16(alloc, inputs, bytes, offset, tag)?))
     } else {

@@ -22,23 +22,25 @@ use std::alloc::Global;
 fn transform_at(
     alloc: Global,
     bytes: &SharedBytes,
+    forward: bool,
     lab: bool,
     inputs: u8,
     signature: u32,
 ) -> Mem<Option<Transform>>
     requires tabled { IsTabled bytes.now }
     requires channels { IsChannels inputs }
-    requires sound { IsSoundTag bytes.now (Content.Transform inputs lab) signature }
+    requires way { forward ≡ false → inputs ≡ 3 }
+    requires sound { IsSoundTag bytes.now (Content.Transform forward inputs lab) signature }
     ensures value { IfOk result (λ transform. transform
-        ≡ option_map (transform_of inputs) (tag_of bytes.now signature)) }
-    ensures suited { IfOk result (IsSuitedTransform lab inputs) }
+        ≡ option_map (transform_of forward inputs) (tag_of bytes.now signature)) }
+    ensures suited { IfOk result (IsSuitedTransform forward lab inputs) }
 {
     match entry_of(bytes.items(), signature) {
         None => Ok(None),
         Some(entry) => {
             let tag = bytes_of(bytes.items(), entry);
             let offset = entry.offset as usize;
-            Ok(Some(transform_of(alloc, lab, inputs, bytes, offset, tag)?))
+            Ok(Some(transform_of(alloc, forward, lab, inputs, bytes, offset, tag)?))
         }
     }
 }
@@ -48,21 +50,23 @@ fn transform_at(
 fn transforms_of(
     alloc: Global,
     bytes: &SharedBytes,
+    forward: bool,
     lab: bool,
     inputs: u8,
     signatures: [u32; 3],
 ) -> Mem<[Option<Transform>; 3]>
     requires tabled { IsTabled bytes.now }
     requires channels { IsChannels inputs }
-    requires sound { AreSoundTags bytes.now (Content.Transform inputs lab) signatures }
-    ensures value { IfOk result (λ transforms. transforms ≡ transforms_of bytes.now inputs signatures) }
-    ensures suited { IfOk result (AreSuited lab inputs) }
+    requires way { forward ≡ false → inputs ≡ 3 }
+    requires sound { AreSoundTags bytes.now (Content.Transform forward inputs lab) signatures }
+    ensures value { IfOk result (λ transforms. transforms ≡ transforms_of bytes.now forward inputs signatures) }
+    ensures suited { IfOk result (AreSuited forward lab inputs) }
 {
     let [first, second, third] = signatures;
     Ok([
-        transform_at(alloc, bytes, lab, inputs, first)?,
-        transform_at(alloc, bytes, lab, inputs, second)?,
-        transform_at(alloc, bytes, lab, inputs, third)?,
+        transform_at(alloc, bytes, forward, lab, inputs, first)?,
+        transform_at(alloc, bytes, forward, lab, inputs, second)?,
+        transform_at(alloc, bytes, forward, lab, inputs, third)?,
     ])
 }
 
@@ -70,11 +74,11 @@ fn transforms_of(
 pub(crate) fn forward_of(alloc: Global, bytes: &SharedBytes) -> Mem<[Option<Transform>; 3]>
     requires { IsSound bytes.now }
     ensures value { IfOk result (λ transforms. transforms ≡ forward_of bytes.now) }
-    ensures suited { IfOk result (AreSuited (is_lab bytes.now) (channels_of bytes.now)) }
+    ensures suited { IfOk result (AreSuited true (is_lab bytes.now) (channels_of bytes.now)) }
 {
     let lab = is_lab(bytes.items());
     let inputs = channels_of(bytes.items());
-    transforms_of(alloc, bytes, lab, inputs, FORWARD)
+    transforms_of(alloc, bytes, true, lab, inputs, FORWARD)
 }
 
 /// The transforms from the connection space, which only a profile of RGB has.
@@ -82,10 +86,10 @@ pub(crate) fn forward_of(alloc: Global, bytes: &SharedBytes) -> Mem<[Option<Tran
 pub(crate) fn backward_of(alloc: Global, bytes: &SharedBytes) -> Mem<[Option<Transform>; 3]>
     requires { IsSound bytes.now }
     ensures value { IfOk result (λ transforms. transforms ≡ backward_of bytes.now) }
-    ensures suited { IfOk result (AreSuited (is_lab bytes.now) 3) }
+    ensures suited { IfOk result (AreSuited false (is_lab bytes.now) 3) }
 {
     if is_rgb(bytes.items()) {
-        transforms_of(alloc, bytes, is_lab(bytes.items()), 3, BACKWARD)
+        transforms_of(alloc, bytes, false, is_lab(bytes.items()), 3, BACKWARD)
     } else {
         Ok([None, None, None])
     }

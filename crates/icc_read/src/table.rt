@@ -5,7 +5,8 @@ ghost use Rattle.icc_read.specs.Table.{EntryValue, entry_at, entry_of, bytes_of,
 ghost use Rattle.icc_read.specs.Table.{gray, rgb};
 ghost use Rattle.icc_read.specs.Faults.{is_outside};
 ghost use Rattle.icc_read.specs.Tags.{has_tag, is_gray, is_rgb, is_lab, channels_of};
-ghost use Rattle.icc_read.specs.Code.Premises.{IsTabled, IsChannels, IsTagAt};
+ghost use Rattle.icc_read.specs.Code.Premises.{IsTabled, IsChannels};
+ghost use Rattle.icc_tables.specs.Stored.{IsTagAt};
 
 use icc_power::u32_at;
 
@@ -87,7 +88,7 @@ pub(crate) fn entry_of(bytes: &[u8], signature: u32) -> Option<Entry>
 }
 
 /// The bytes of an entry's tag.
-#[tactic(auto, using(crate::proofs::Lists::tag_place))]
+#[tactic(auto, using(icc_tables::proofs::Stored::tag_place))]
 pub(crate) fn bytes_of(bytes: &[u8], entry: Entry) -> &[u8]
     requires { entry.offset + entry.size ≤ length bytes.now }
     ensures value { result.now ≡ bytes_of bytes.now entry }

@@ -29,6 +29,7 @@ pub(crate) fn forward_content(bytes: &[u8]) -> Content
     ensures channels { HasChannels result }
 {
     Content::Transform {
+        forward: true,
         inputs: channels_of(bytes),
         lab: is_lab(bytes),
     }
@@ -41,6 +42,7 @@ pub(crate) fn backward_content(bytes: &[u8]) -> Content
     ensures channels { HasChannels result }
 {
     Content::Transform {
+        forward: false,
         inputs: 3,
         lab: is_lab(bytes),
     }
@@ -75,7 +77,8 @@ pub(crate) fn has_gray_curve(bytes: &[u8]) -> bool
 
 /// Whether the tag of a signature is there and of another type than its kind has.
 fn is_wrong(bytes: &[u8], content: Content, signature: u32) -> bool
-    requires { IsTabled bytes.now }
+    requires tabled { IsTabled bytes.now }
+    requires channels { HasChannels content }
     ensures { result ≡ option_map_or (has_other_type content) (tag_of bytes.now signature) false }
 {
     match tag_of(bytes, signature) {
@@ -98,7 +101,8 @@ fn is_bad(bytes: &[u8], content: Content, signature: u32) -> bool
 
 /// Whether one of the tags of three signatures is of another type than its kind has.
 fn any_wrong(bytes: &[u8], content: Content, signatures: [u32; 3]) -> bool
-    requires { IsTabled bytes.now }
+    requires tabled { IsTabled bytes.now }
+    requires channels { HasChannels content }
     ensures { result ≡ any_tag bytes.now (has_other_type content) signatures }
 {
     let [first, second, third] = signatures;

@@ -14,10 +14,12 @@ use Rattle.icc_tables.proofs.Tables.{rounded_most}
 pub next_power : (b n : ℕ) → b ^ suc n ≡ b ^ n * b
 next_power b n = rw (pow-suc b n) (omega arith)
 
-split_weight : (w t r q m : ℕ) → w * t * q * m + w * r * q * m ≡ w * (q * (t + r)) * m
+-- a weight by the parts of a whole
+pub split_weight : (w t r q m : ℕ) → w * t * q * m + w * r * q * m ≡ w * (q * (t + r)) * m
 split_weight w t r q m = omega arith
 
-parts : (top n : ℕ) → 0 < top → top - n % top + n % top ≡ top
+-- the two parts of a whole
+pub parts : (top n : ℕ) → 0 < top → top - n % top + n % top ≡ top
 parts top n h = let r = mod-lt n h in omega (arith, r)
 
 -- the sum of the weights is that of one corner for the channels before, times the lut's greatest value for each one

@@ -64,10 +64,10 @@ impl Model for Lut {
 
 /// Three sums of weighted values.
 #[derive(Clone, Copy)]
-struct Sums {
-    first: u128,
-    second: u128,
-    third: u128,
+pub struct Sums {
+    pub first: u128,
+    pub second: u128,
+    pub third: u128,
 }
 
 impl Model for Sums {
@@ -108,13 +108,13 @@ fn node_count(lut: &Lut) -> usize
 /// The cell of the grid that a value lies in along a channel, by its first grid point, and the
 /// distance from there: of `top`, 0 at a grid point.
 #[derive(Drop)]
-struct Cell {
-    first: usize,
-    distance: u64,
+pub struct Cell {
+    pub first: usize,
+    pub distance: u64,
 }
 
 #[tactic(auto, using(crate::proofs::Corners::in_grid, crate::proofs::Corners::next_in_grid))]
-fn cell_of(top: u64, grid: usize, v: u16) -> Cell
+pub fn cell_of(top: u64, grid: usize, v: u16) -> Cell
     requires some { 0 < top }
     requires bound { top ≤ 65535 }
     requires grid { 2 ≤ grid }
@@ -222,14 +222,14 @@ fn see_nodes(lut: &Lut)
 }
 
 /// What no corner adds.
-const NOTHING: Sums = Sums {
+pub const NOTHING: Sums = Sums {
     first: 0,
     second: 0,
     third: 0,
 };
 
 /// One corner: a weight times the three values of a node.
-fn corner(nodes: &Nodes, weight: u64, place: usize) -> Sums
+pub fn corner(nodes: &Nodes, weight: u64, place: usize) -> Sums
     requires weight { weight ≤ 65535 ^ 4 }
     requires place { place * 3 + 2 < length nodes.now }
     ensures first { result.first ≡ weight * slice_index nodes.now (place * 3 + 0) }
@@ -254,7 +254,7 @@ fn weighted(weight: u64, node: u16) -> u128
     u128::from(weight) * u128::from(node)
 }
 
-fn added(a: Sums, b: Sums) -> Sums
+pub fn added(a: Sums, b: Sums) -> Sums
     requires a { AreSmall a }
     requires b { AreSmall b }
     ensures first { result.first ≡ a.first + b.first }
@@ -312,7 +312,7 @@ fn fourth(top: u64) -> u64
 
 /// A sum of weighted values over the sum of the weights, rounded to the nearest.
 #[tactic(auto, using(crate::proofs::Tables::rounded_half, crate::proofs::Tables::rounded_most))]
-fn nearest(sum: u128, whole: u64) -> u16
+pub fn nearest(sum: u128, whole: u64) -> u16
     requires some { 0 < whole }
     requires whole { whole ≤ 65535 ^ 4 }
     requires sum { sum ≤ 65535 * whole }

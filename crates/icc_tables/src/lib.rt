@@ -16,8 +16,8 @@ mod shared;
 mod values;
 
 pub use curve::{Curve, curve_at, curve_back};
-pub use lattice::{Lut, lattice_at};
-pub use nodes::{NodeSize, Nodes};
+pub use lattice::{Cell, Lut, NOTHING, Sums, added, cell_of, corner, lattice_at, nearest};
+pub use nodes::{NodeSize, Nodes, nodes_of_tag};
 pub use pcs::{
     Pcs, clamped, in_chroma, in_lightness, in_xyz, lab_of_xyz, lab_to_xyz, xyz_of_lab, xyz_to_lab,
 };

@@ -1,11 +1,12 @@
 //! The nodes of a lattice, where they stand in a profile's bytes.
-ghost use Rattle.std.specs.Prelude.{◌≡◌, ◌≤◌, ◌<◌, ◌+◌, ◌*◌, length, drop, slice_index};
+ghost use Rattle.std.specs.Prelude.{◌≡◌, ◌≤◌, ◌<◌, ◌+◌, ◌*◌, length, drop, slice_index, IfOk};
 ghost use Rattle.byteorder.specs.Endian.{big_number};
-ghost use Rattle.icc_tables.specs.Stored.{node_in, nodes_of, size_of, most_of};
+ghost use Rattle.icc_tables.specs.Stored.{node_in, nodes_of, size_of, most_of, IsTagAt};
 ghost use Rattle.icc_tables.specs.Lattice.{AreAtMost};
 
 use crate::shared::SharedBytes;
 use byteorder::{BigEndian, ByteOrder};
+use std::alloc::AllocError;
 use std::marker::Model;
 
 /// How the value of a node is written.
@@ -13,6 +14,8 @@ use std::marker::Model;
 pub enum NodeSize {
     /// In one byte.
     Byte,
+    /// In one byte, and 257 times as great: a value of 8 bits in 16.
+    Widened,
     /// In two, the highest first.
     Word,
 }
@@ -57,6 +60,7 @@ fn node_in(size: NodeSize, bytes: &[u8], from: usize, k: usize) -> u16
 {
     match size {
         NodeSize::Byte => u16::from(bytes[from + k]),
+        NodeSize::Widened => 257 * u16::from(bytes[from + k]),
         NodeSize::Word => word_at(bytes, from + 2 * k),
     }
 }
@@ -94,4 +98,23 @@ impl Nodes {
     {
         node_in(self.size, self.bytes.items(), self.from, k)
     }
+}
+
+/// So many nodes of a tag that begins at a place among a profile's bytes, from a place `at` of the tag
+/// on.
+pub fn nodes_of_tag(
+    bytes: &SharedBytes,
+    offset: usize,
+    tag: &[u8],
+    at: usize,
+    count: usize,
+    size: NodeSize,
+) -> Result<Nodes, AllocError>
+    requires place { IsTagAt bytes.now offset tag.now }
+    requires inside { at + size_of size * count ≤ length tag.now }
+    ensures items { IfOk result (λ nodes. nodes ≡ nodes_of size tag.now at count) }
+    ensures length { IfOk result (λ nodes. length nodes ≡ count) }
+    ensures most { IfOk result (AreAtMost (most_of size)) }
+{
+    Ok(Nodes::new(bytes.share()?, offset + at, count, size))
 }

@@ -76,6 +76,7 @@ fn of_transform(alloc: Global, transform: &Transform) -> Mem<Source>
             }
             Ok(Source::Points(Entries::of(alloc, lut)?))
         }
+        Transform::Stages(_) => Ok(Source::Forward),
     }
 }
 
@@ -90,8 +91,9 @@ fn pointed(entries: &Entries, profile: &Profile, intent: Intent, code: Code) -> 
     match profile.chosen_forward(intent) {
         Some(transform) => match transform {
             Transform::Lut(lut) => decoded(lut.wide, profile.lab(), entries.values(lut, code)),
+            Transform::Stages(_) => source_of(profile, intent, code),
         },
-        // Entries are of a transform.
+        // Entries are of a lut.
         None => source_of(profile, intent, code),
     }
 }

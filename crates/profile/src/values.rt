@@ -1,5 +1,5 @@
 //! The numbers of a profile.
-use icc_model::{Base, Curve, Lut, Profile, Transform, Values, curve_at};
+use icc_model::{Base, Curve, Lut, Profile, Stages, Transform, Values, curve_at};
 use md5::{Digest, Md5};
 use std::io;
 
@@ -56,6 +56,10 @@ fn print_transform(
             print!(rt; "  {name}{number}")?;
             print_lut(rt, lut)
         }
+        Some(Transform::Stages(stages)) => {
+            print!(rt; "  {name}{number}")?;
+            print_stages(rt, stages)
+        }
     }
 }
 
@@ -86,5 +90,51 @@ fn digest(lut: &Lut) -> [u8; 16] {
 fn add(hasher: &mut Md5, values: &Values) {
     for value in values.items() {
         hasher.update(value.to_be_bytes().as_slice());
+    }
+}
+
+fn print_stages(rt: &HostRuntime, stages: &Stages) -> io::Result<()> {
+    let inputs = stages.inputs;
+    print!(rt; ": stages of {inputs} channels, grid")?;
+    if let Some(lattice) = &stages.lattice {
+        for points in lattice.grid.iter().take(usize::from(inputs)) {
+            print!(rt; " {points}")?;
+        }
+    }
+    print!(rt; ", MD5 ")?;
+    for byte in stages_digest(stages) {
+        print!(rt; "{byte:02x}")?;
+    }
+    match &stages.matrix {
+        None => println!(rt; " matrix"),
+        Some(stage) => {
+            print_numbers(rt, " matrix", &stage.matrix)?;
+            println!(rt; "")
+        }
+    }
+}
+
+/// The MD5 of the curves at 16 values each, B, M and A, and of the nodes.
+fn stages_digest(stages: &Stages) -> [u8; 16] {
+    let mut hasher = Md5::new();
+    add_curves(&mut hasher, &stages.b);
+    if let Some(stage) = &stages.matrix {
+        add_curves(&mut hasher, &stage.curves);
+    }
+    if let Some(stage) = &stages.lattice {
+        let (curves, _) = stage.curves.split_at(usize::from(stage.inputs).min(4));
+        add_curves(&mut hasher, curves);
+        for k in 0..stage.nodes.count() {
+            hasher.update(stage.nodes.at(k).to_be_bytes().as_slice());
+        }
+    }
+    hasher.finalize()
+}
+
+fn add_curves(hasher: &mut Md5, curves: &[Curve]) {
+    for curve in curves {
+        for k in 0..16u16 {
+            hasher.update(curve_at(curve, 4369 * k).to_be_bytes().as_slice());
+        }
     }
 }

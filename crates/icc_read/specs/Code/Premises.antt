@@ -1,6 +1,5 @@
 -- What the reader of a tag may take for granted: the tests before it, as facts.
-use Rattle.std.specs.Prelude.{◌≡◌, ◌≤◌, ◌⊎◌, ℕ, ◌+◌, ◌*◌, Bool, false, List, Option, length, slice_index, take}
-use Rattle.std.specs.Prelude.{drop}
+use Rattle.std.specs.Prelude.{◌≡◌, ◌≤◌, ◌⊎◌, ℕ, ◌+◌, ◌*◌, Bool, false, List, Option, length, slice_index}
 use Rattle.std.specs.Option.{option_map_or}
 use Rattle.icc_model.specs.Profile.{IsSuitedTransform, nth}
 use Rattle.icc_model.specs.declared.profile.Transform.{Transform}
@@ -36,24 +35,20 @@ pub record IsSoundTag (bytes : List ℕ) (content : Content) (signature : ℕ) :
   pub known : option_map_or (has_other_type content) (tag_of bytes signature) false ≡ false
   pub shape : option_map_or (is_misshapen content) (tag_of bytes signature) false ≡ false
 
--- a tag's bytes stand at a place among those of the profile
-pub record IsTagAt (bytes : List ℕ) (offset : ℕ) (tag : List ℕ) : Type 0 where
-  pub inside : offset + length tag ≤ length bytes
-  pub is : tag ≡ take (length tag) (drop offset bytes)
-
 -- the channels of a colour space: 1, 3 or 4
 abbrev pub IsChannels : ℕ → Type 0
 IsChannels inputs = (inputs ≡ 1) ⊎ (inputs ≡ 3) ⊎ (inputs ≡ 4)
 
 -- the channels of a transform are those of a colour space
 abbrev pub HasChannels : Content → Type 0
-HasChannels (kind.Transform inputs is_lab) = IsChannels inputs
+HasChannels (kind.Transform forward inputs is_lab) = IsChannels inputs
 HasChannels kind.Column = Unit {0}
 HasChannels kind.Curve = Unit {0}
 
 -- each of some transforms takes the channels
-abbrev pub AreSuited : Bool → ℕ → List (Option Transform) → Type 0
-AreSuited is_lab inputs transforms = (number : ℕ) → IsSuitedTransform is_lab inputs (nth transforms number)
+abbrev pub AreSuited : Bool → Bool → ℕ → List (Option Transform) → Type 0
+AreSuited forward is_lab inputs transforms =
+    (number : ℕ) → IsSuitedTransform forward is_lab inputs (nth transforms number)
 
 -- what a lut of 8 bits is that isn't bad
 pub record IsMft1 (inputs : ℕ) (tag : List ℕ) : Type 0 where

@@ -7,7 +7,7 @@ use Rattle.icc_model.specs.declared.profile.Base.{Base}
 use Rattle.icc_model.specs.declared.profile.Base.TheVariants.{Matrix, Gray}
 use Rattle.icc_model.specs.declared.profile.Intent.{Intent}
 use Rattle.icc_model.specs.declared.profile.Transform.{Transform}
-use Rattle.icc_model.specs.declared.profile.Transform.TheVariants.{Lut}
+use Rattle.icc_model.specs.declared.profile.Transform.TheVariants.{Lut, Stages}
 use Rattle.link_build.specs.Key.{LinkKeyValue}
 use Rattle.link_build.specs.Code.Entries.{EntriesValue, IsEntriesOf}
 use Rattle.link_build.specs.Code.Prepared.{MixtureValue, InverseValue, IsMixtureOf, IsInverseOf}
@@ -27,6 +27,7 @@ IsMixtureOfBase None shares = ⊥
 -- the tables are those of the lut of a transform
 abbrev pub AreEntriesOf : Option Transform → EntriesValue → Type 0
 AreEntriesOf (Some (Lut lut)) entries = (3 ≤ lut.inputs) × IsEntriesOf lut entries
+AreEntriesOf (Some (Stages stages)) entries = ⊥
 AreEntriesOf None entries = ⊥
 
 -- what is prepared is a profile's as a source

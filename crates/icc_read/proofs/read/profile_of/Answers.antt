@@ -1,4 +1,4 @@
-use Rattle.std.proofs.Common.{◌∙◌, List, ℕ, ap, subst}
+use Rattle.std.proofs.Common.{◌∙◌, List, ℕ, ap, subst, true, false}
 use Rattle.icc_read.specs.Tags.{is_lab, channels_of}
 use Rattle.icc_read.specs.Read.{base_of, forward_of, backward_of}
 use Rattle.icc_read.specs.Code.Premises.{AreSuited}
@@ -15,7 +15,7 @@ of_parts-requires c = parts_fit c.args.bytes.items c.cut-bytes.result c.is_lab-l
     (c.in_ok-base.ensures ∙ ap (λ (bs : List ℕ). base_of bs) (c.items.ensures ∙ c.in_ok-bytes.ensures))
     (c.in_ok-forward.ensures.value ∙ ap (λ (bs : List ℕ). forward_of bs) c.in_ok-bytes.ensures)
     (c.in_ok-backward.ensures.value ∙ ap (λ (bs : List ℕ). backward_of bs) c.in_ok-bytes.ensures)
-    (subst (λ (bs : List ℕ). AreSuited (is_lab bs) (channels_of bs) c.in_ok-forward.forward) c.in_ok-bytes.ensures
+    (subst (λ (bs : List ℕ). AreSuited true (is_lab bs) (channels_of bs) c.in_ok-forward.forward) c.in_ok-bytes.ensures
     c.in_ok-forward.ensures.suited)
-    (subst (λ (bs : List ℕ). AreSuited (is_lab bs) 3 c.in_ok-backward.backward) c.in_ok-bytes.ensures
+    (subst (λ (bs : List ℕ). AreSuited false (is_lab bs) 3 c.in_ok-backward.backward) c.in_ok-bytes.ensures
     c.in_ok-backward.ensures.suited)

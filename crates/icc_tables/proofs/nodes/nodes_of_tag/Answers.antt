@@ -1,8 +1,7 @@
 use Rattle.std.proofs.Common.{◌∙◌, ◌+◌, ap, List, ℕ, length}
 use Rattle.icc_tables.specs.Stored.{nodes_of}
-use Rattle.icc_tables.proofs.Stored.{nodes_count}
-use Rattle.icc_read.proofs.Lists.{same_nodes}
-use Rattle.icc_read.proofs.luts.nodes_from.Goals as goal
+use Rattle.icc_tables.proofs.Stored.{nodes_count, same_nodes}
+use Rattle.icc_tables.proofs.nodes.nodes_of_tag.Goals as goal
 
 -- they are the same values wherever they are read from
 pub returns-clause-items : goal.returns-clause-items
