@@ -1,2 +1,3 @@
 pub mod Visits
 pub mod BindSteps
+pub mod Places
