@@ -1,3 +1,5 @@
 pub mod VisitLemmas
 pub mod ReachLemmas
 pub mod BindLemmas
+pub mod PlaceLemmas
+pub mod GoingLemmas
