@@ -1,6 +1,6 @@
 -- The first eight bytes of a name.
-use Rattle.std.proofs.Common.{◌≡◌, ◌≢◌, ◌≤◌, ◌<◌, ◌+◌, ◌-◌, ◌++◌, ℕ, min, true, false, List, [], ◌∷◌, length, take, drop}
-use Rattle.std.proofs.Common.{replicate, get_or, set, refl, sym, ap, ◌∙◌, ⊎_elim, arith}
+use Rattle.std.proofs.Common.{◌≡◌, ◌≢◌, ◌≤◌, ◌<◌, ◌+◌, ◌-◌, ◌++◌, ℕ, min, true, false, List, [], ◌∷◌, length, take}
+use Rattle.std.proofs.Common.{drop, replicate, get_or, set, refl, sym, ap, ◌∙◌, ⊎_elim, arith}
 use Rattle.std.specs.Int.{w64, from_le_bytes, to_le_bytes}
 use Rattle.std.specs.Str.{bytes_eq}
 use Rattle.std.specs.Cmp.Lexicographic.{bytes_decides}
@@ -8,7 +8,8 @@ use Rattle.std.proofs.lemmas.Bool.{cases_lt, false_from_ne_true}
 use Rattle.std.proofs.lemmas.Nat.{le_bytes_8}
 use Rattle.std.proofs.lemmas.List.{take-take, take_at, length-append, length-take, take-append-drop, drop-take, drop_at}
 use Rattle.std.proofs.lemmas.List.{drop_all, take-replicate, drop-replicate, take_more_set, take_more, get_or-take}
-use Rattle.std.proofs.lemmas.List.{get_or_append_left, drop-set-lt}
+use Rattle.std.proofs.lemmas.List.{get_or_append_left, drop-set-lt, get_or-replicate, get_or_past, length-replicate}
+use Rattle.std.proofs.lemmas.List.{get_or-append_right}
 use Rattle.std.proofs.lemmas.Grind.{drop_more_same}
 use Rattle.ps_store.specs.Code.Hashing.{head_bytes}
 
@@ -86,7 +87,27 @@ pub back_more : (first : List ℕ) (at b : ℕ) → drop at first ≡ drop at (r
 back_more first at b back =
     drop-set-lt (at + 1) first at b (omega arith) ∙ drop_more_same first (replicate 8 0) at back
 
--- what is read of the bytes as a number gives them back
-pub read_back : (xs first : List ℕ) (n : ℕ) → length first ≡ 8 → ((i : ℕ) → get_or first i 0 < 256) →
-    first ≡ head_bytes xs → n ≡ from_le_bytes w64 first → to_le_bytes w64 n ≡ head_bytes xs
-read_back xs first n long small is read = le_bytes_8 first n long small read ∙ is
+filled_at : (n i z : ℕ) → get_or (replicate n z) i z ≡ z
+filled_at n i z = ⊎_elim (λ near. get_or-replicate n i z z near)
+    (λ far. get_or_past (replicate n z) i z (omega (arith, length-replicate n z, far))) (cases_lt i n)
+
+padded_at : (xs : List ℕ) (n : ℕ) → ((i : ℕ) → get_or xs i 0 < 256) → (i : ℕ) →
+    get_or (xs ++ replicate n 0) i 0 < 256
+padded_at xs n small i = ⊎_elim
+    (λ near. let is = get_or_append_left xs (replicate n 0) 0 i near in
+    let below = small i in omega (arith, is, below))
+    (λ far. let is = get_or-append_right xs (replicate n 0) (length xs) i 0 refl far in
+    let none = filled_at n (i - length xs) 0 in omega (arith, is, none))
+    (cases_lt i (length xs))
+
+taken_at : (xs : List ℕ) (n : ℕ) → ((i : ℕ) → get_or xs i 0 < 256) → (i : ℕ) → get_or (take n xs) i 0 < 256
+taken_at xs n small i = ⊎_elim
+    (λ near. let is = get_or-take n xs i 0 near in let below = small i in omega (arith, is, below))
+    (λ far. let is = get_or_past (take n xs) i 0 (omega (arith, length-take n xs, far)) in omega (arith, is))
+    (cases_lt i n)
+
+-- what is read of the first eight bytes as a number gives them back
+pub read_back : (xs first : List ℕ) (n : ℕ) → ((i : ℕ) → get_or xs i 0 < 256) → first ≡ head_bytes xs →
+    n ≡ from_le_bytes w64 first → to_le_bytes w64 n ≡ head_bytes xs
+read_back xs first n small is read = le_bytes_8 (head_bytes xs) n (size xs)
+    (taken_at (xs ++ replicate 8 0) 8 (padded_at xs 8 small)) (read ∙ ap (from_le_bytes w64) is)

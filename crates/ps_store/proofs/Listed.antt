@@ -3,7 +3,8 @@ use Rattle.std.proofs.Common.{◌≡◌, ◌<◌, ◌+◌, ◌++◌, ℕ, zero, 
 use Rattle.std.proofs.Common.{drop, get_or, set, Option, Some, None, refl, sym, ap, ◌∙◌, arith, not}
 use Rattle.std.specs.Map.{lookup}
 use Rattle.std.specs.Option.{is_some}
-use Rattle.std.proofs.lemmas.List.{at_drop_more, take_more}
+use Rattle.std.proofs.lemmas.Bool.{false≢true}
+use Rattle.std.proofs.lemmas.List.{at_drop_more, take_more, get_or_default}
 use Rattle.std.proofs.lemmas.Option.{none-some}
 use Rattle.indexmap.specs.IndexMap.{insert_entry}
 use Rattle.ps_store.specs.declared.key.Key.{Key}
@@ -50,6 +51,23 @@ entered_last (e ∷ es) k v none =
     let parts = missed (same_key k e.0) e.1 (lookup (same_key k) es) none in
     ap (λ b. cond b ((e.0, v) ∷ es) (e ∷ insert_entry same_key es k v)) parts.0
     ∙ ap (λ rest. e ∷ rest) (entered_last es k v parts.1)
+
+lacking : (o : Option Obj) → false ≡ is_some o → o ≡ None
+lacking None h = refl
+lacking (Some x) h = absurd (false≢true h)
+
+-- the next entry of a list goes last, where its key is new
+pub entered_next : (es list : List (Key × Obj)) (at : ℕ) (k : Key) (v : Obj) (d e : Key × Obj) → at < length list →
+    es ≡ take at list → false ≡ is_some (lookup (same_key k) es) → k ≡ (get_or list at d).0 →
+    v ≡ (get_or list at e).1 → insert_entry same_key es k v ≡ take (at + 1) list
+entered_next es list at k v d e within so_far missing key_is value_is =
+    let next = get_or list at d in
+    let same : v ≡ next.1 = value_is ∙ ap (λ f. f.1) (get_or_default list at e d within) in
+    let with_key : Key → List (Key × Obj) = λ x. take at list ++ (x, v) ∷ [] in
+    let with_value : Obj → List (Key × Obj) = λ y. take at list ++ (next.0, y) ∷ [] in
+    entered_last es k v (lacking (lookup (same_key k) es) missing)
+    ∙ (ap (λ xs. xs ++ (k, v) ∷ []) so_far
+    ∙ (ap with_key key_is ∙ (ap with_value same ∙ sym (take_more list at d within))))
 
 tail_first : (k : Key) (e : Key × Obj) (es : List (Key × Obj)) (at : ℕ) → IsFirstAt k (e ∷ es) (suc at) →
     (same_key k e.0 ≡ false) × IsFirstAt k es at

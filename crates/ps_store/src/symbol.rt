@@ -209,9 +209,16 @@ fn head_of(bytes: &[u8]) -> u64
     ensures value { result ≡ from_le_bytes w64 (head_bytes bytes.now) }
     ensures bytes { to_le_bytes w64 result ≡ head_bytes bytes.now }
 {
+    u64::from_le_bytes(first_bytes(bytes))
+}
+
+/// The first eight bytes of a name, with zeros behind a shorter one.
+fn first_bytes(bytes: &[u8]) -> [u8; 8]
+    ensures { result ≡ head_bytes bytes.now }
+{
     let mut first = [0; 8];
     for at in 0..bytes.len().min(8) {
         first[at] = bytes[at];
     }
-    u64::from_le_bytes(first)
+    first
 }

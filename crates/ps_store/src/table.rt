@@ -1,5 +1,5 @@
 //! The table of a dictionary's entries: few stand in a list, more in a map.
-ghost use Rattle.std.specs.Prelude.{◌≡◌, ◌<◌, [], length, not, OnOk, OnErr, IfOk, IfSome, IsTrue, MatchOption, None, Some};
+ghost use Rattle.std.specs.Prelude.{◌≡◌, ◌<◌, [], length, not, OnOk, OnErr, IfOk, IfSome, MatchOption, None, Some};
 ghost use Rattle.std.specs.Prelude.{◌++◌, ◌∷◌, slice_get, slice_set, slice_index_or};
 ghost use Rattle.std.specs.Map.{lookup};
 ghost use Rattle.std.specs.Map.Iter.{deref_pair};
