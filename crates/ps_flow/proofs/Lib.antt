@@ -2,3 +2,5 @@ pub mod VisitLemmas
 pub mod ReachLemmas
 pub mod BindLemmas
 pub mod WholeParts
+pub mod PlaceLemmas
+pub mod GoingLemmas

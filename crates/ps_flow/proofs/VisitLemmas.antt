@@ -14,46 +14,14 @@ use Rattle.ps_flow.specs.Code.Visits.{AreReached, missing, unvisited, with_visit
 use Rattle.ps_flow.proofs.ReachLemmas.{or_left, or_right, or_cases, same_true, same_itself, has_left, has_right}
 use Rattle.ps_flow.proofs.ReachLemmas.{has_cases, has_from, place_from, reached_in_store}
 
--- one more of those that are found at places
-found_first : (found : Option PartValue) (visits rest : List PartValue) →
-    with_visits (with_found visits found) rest ≡ with_visits visits (cons_option found rest)
-unfolding with_visits
-found_first (Some p) visits rest = refl
-found_first None visits rest = refl
-
--- the procedure at a place is visited, if there is one, and then those behind it
-pub add_more : (s : StoreValue) (p : PartValue) (visits : List PartValue) (at len : ℕ) → at < len
-    → with_visits (with_found visits (procedure_at s p at)) (procedures_from s p (at + 1) (len - (at + 1)))
-    ≡ with_visits visits (procedures_from s p at (len - at))
-add_more s p visits at len within =
-    found_first (procedure_at s p at) visits (procedures_from s p (at + 1) (len - (at + 1)))
-    ∙ ap (λ n. with_visits visits (procedures_from s p at n)) (left_more at len within)
-  where
-    left_more : (at len : ℕ) → at < len → suc (len - (at + 1)) ≡ len - at
-    left_more at len within = omega arith
-
--- none is left
-pub added_all : (s : StoreValue) (p : PartValue) (visits : List PartValue) (at len : ℕ) → len ≤ at →
-    with_visits visits (procedures_from s p at (len - at)) ≡ visits
-unfolding with_visits
-added_all s p visits at len past = let none : len - at ≡ 0 = omega arith in
-    ap (λ n. with_visits visits (procedures_from s p at n)) none
-
--- all of them are reached, and what those before the place hold is among them
-pub record IsWorking (s : StoreValue) (p : PartValue) (visits : List PartValue) (place : ℕ) : Type 0 where
-  pub sound : (q : PartValue) → has visits q ≡ true → Reaches s p q
-  pub first : has visits p ≡ true
-  pub closed : (q r : PartValue) (at : ℕ) → has (take place visits) q ≡ true → at < q.len →
-      procedure_at s q at ≡ Some r → has visits r ≡ true
-  pub within : place ≤ length visits
-
--- one more procedure
-one_old : (b : Bool) (visits : List PartValue) (r q : PartValue) → has visits q ≡ true →
+-- one procedure more: what was there stays
+pub one_old : (b : Bool) (visits : List PartValue) (r q : PartValue) → has visits q ≡ true →
     has (if b then visits else visits ++ r ∷ []) q ≡ true
 one_old true visits r q h = h
 one_old false visits r q h = has_left visits (r ∷ []) q h
 
-one_new : (b : Bool) (visits : List PartValue) (r : PartValue) → has visits r ≡ b →
+-- and it is there
+pub one_new : (b : Bool) (visits : List PartValue) (r : PartValue) → has visits r ≡ b →
     has (if b then visits else visits ++ r ∷ []) r ≡ true
 one_new true visits r h = h
 one_new false visits r h = has_right visits (r ∷ []) r (or_left (same_part r r) false (same_itself r))
@@ -197,87 +165,10 @@ visits_measure (r ∷ added) visits procedures among =
     visits_measure added (with_visit visits r) procedures (λ x h. among x (or_right (same_part x r) (has added x) h)) in
     omega (arith, one, rest)
 
--- the first procedure alone
-pub working_first : (s : StoreValue) (p : PartValue) → IsWorking s p (with_visit [] p) 0
-working_first s p = record {
-  sound = λ q h. elim (or_cases (same_part q p) false h) [
-    | inl same ↦
-        subst (λ x. Reaches s p x) (sym (same_true q p same)) here
-    | inr wrong ↦ cc
-  ];
-  first = or_left (same_part p p) false (same_itself p);
-  closed = λ q r at h. cc;
-  within = omega arith;
-}
-
 -- the procedure at a place is there
-at_place : (visits : List PartValue) (place : ℕ) (q : PartValue) → slice_get visits place ≡ Some q → has visits q ≡ true
+pub at_place : (visits : List PartValue) (place : ℕ) (q : PartValue) → slice_get visits place ≡ Some q →
+    has visits q ≡ true
 at_place [] place q h = cc
 at_place (p ∷ visits) zero q h = or_left (same_part q p) (has visits q)
     (let e : p ≡ q = cc in subst (λ x. same_part q x ≡ true) (sym e) (same_itself q))
 at_place (p ∷ visits) (suc place) q h = or_right (same_part q p) (has visits q) (at_place visits place q h)
-
--- the next procedure, with what it holds
-pub working_more : (s : StoreValue) (p : PartValue) (visits : List PartValue) (place : ℕ) (q : PartValue) →
-    IsWorking s p visits place → slice_get visits place ≡ Some q
-    → IsWorking s p (with_visits visits (procedures_in s q)) (place + 1)
-working_more s p visits place q working is =
-    let added = procedures_in s q in
-    let inside : place < length visits = slice_get_within visits place q is in
-    let more : place + 1 ≤ length visits = omega (arith, inside) in
-    let front : take (place + 1) (with_visits visits added) ≡ take place visits ++ q ∷ [] =
-    visits_front added visits (place + 1) more
-    ∙ (take_more visits place q inside ∙ ap (λ x. take place visits ++ x ∷ [])
-    (get_or_from_slice_get visits place q q is)) in
-    record {
-      sound = λ r h. elim (visits_cases added visits r h) [
-        | inl old ↦ working.sound r old
-        | inr new ↦ (let at = place_from s q r 0 q.len new in
-            further q r at.0 (working.sound q (at_place visits place q is)) (omega (arith, at.1)) at.2)
-      ];
-      first = visits_old added visits p working.first;
-      closed = λ x r at among within procedure.
-          elim (has_cases (take place visits) (q ∷ []) x (ap (λ v. has v x) (sym front) ∙ among)) [
-            | inl before ↦ visits_old added visits r (working.closed x r at before within procedure)
-            | inr last ↦ elim (or_cases (same_part x q) false last) [
-              | inl same ↦ (let e : x ≡ q = same_true x q same in
-                  visits_new added visits r (has_from s q r 0 q.len at (omega arith)
-                  (subst (λ (y : PartValue). at < 0 + y.len) e (omega (arith, within)))
-                  (subst (λ y. procedure_at s y at ≡ Some r) e procedure)))
-              | inr wrong ↦ cc
-            ]
-          ];
-      within = omega (arith, more, visits_longer added visits);
-    }
-
--- all procedures
-pub working_all : (s : StoreValue) (p : PartValue) (visits : List PartValue) (place : ℕ) → IsWorking s p visits place →
-    slice_get visits place ≡ None → AreReached s p visits
-working_all s p visits place working none =
-    let past : length visits ≤ place = elim (slice_get_cases visits place).1 [
-      | inl found ↦
-          (let at = found.2 in cc)
-      | inr past ↦ past.0
-    ] in
-    let whole : place ≡ length visits = (let w = working.within in omega (arith, past, w)) in
-    record {
-      sound = working.sound;
-      first = working.first;
-      closed = λ q r at h. working.closed q r at
-          (ap (λ v. has v q) (ap (λ n. take n visits) whole ∙ take-length visits) ∙ h);
-    }
-
--- fewer are left
-pub working_fewer : (s : StoreValue) (p : PartValue) (visits : List PartValue) (place : ℕ) (q : PartValue) →
-    IsWorking s p visits place → slice_get visits place ≡ Some q
-    → unvisited (with_visits visits (procedures_in s q)) (procedures_with p s)
-    + length (with_visits visits (procedures_in s q)) - (place + 1) < unvisited visits (procedures_with p s)
-    + length visits - place
-working_fewer s p visits place q working is =
-    let inside : place < length visits = slice_get_within visits place q is in
-    let less = visits_measure (procedures_in s q) visits (procedures_with p s)
-    (λ r h. (let at = place_from s q r 0 q.len h in
-    reached_in_store s p r (further q r at.0 (working.sound q (at_place visits place q is))
-    (omega (arith, at.1)) at.2))) in
-    let longer = visits_longer (procedures_in s q) visits in
-    omega (arith, inside, less, longer)

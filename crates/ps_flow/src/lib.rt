@@ -6,6 +6,7 @@ mod contents;
 mod counter;
 mod flow;
 mod level;
+mod places;
 mod pushes;
 mod rows;
 mod visits;

@@ -9,7 +9,7 @@ returns c =
     let s = c.args.store.now in
     let dicts = c.args.dicts.now in
     let is : c.bind_all.new.store ≡ bind_store dicts s c.args.p = c.bind_all.ensures
-    ∙ bound_whole dicts s c.args.p c.in_ok-visits.visits c.in_ok-visits.ensures in
+    ∙ bound_whole dicts s c.args.p c.in_ok-places.places c.in_ok-places.ensures in
     record {
       value = is;
       law = subst (BindsExactly dicts s c.args.p) (sym is) (binds_exactly dicts s c.args.p);
