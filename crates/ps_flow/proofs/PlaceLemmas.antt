@@ -25,7 +25,7 @@ lookup_kept : (seen : List (PartValue × ℕ)) (k q : PartValue) (v : ℕ) →
     lookup (same_part q) (insert_entry same_part seen k v)
     ≡ (if same_part q k then Some v else lookup (same_part q) seen)
 lookup_kept [] k q v = refl
-lookup_kept (e ∷ seen) k q v = by_key (same_part k e.0) refl
+lookup_kept (e ∷ seen) k q v = by_key (same_part k e.0) refl (lookup_kept seen k q v)
   where
     at_key : (b c : Bool) → b ≡ c → (if b then Some v else lookup (same_part q) seen)
         ≡ (if c then Some v else (if b then Some e.1 else lookup (same_part q) seen))
@@ -51,12 +51,14 @@ lookup_kept (e ∷ seen) k q v = by_key (same_part k e.0) refl
             let same : same_part k e.0 ≡ true = subst (λ x. same_part x e.0 ≡ true) two yes in cc
 
     by_key : (b : Bool) → same_part k e.0 ≡ b
+        → lookup (same_part q) (insert_entry same_part seen k v)
+        ≡ (if same_part q k then Some v else lookup (same_part q) seen)
         → lookup (same_part q) (if b then (e.0, v) ∷ seen else e ∷ insert_entry same_part seen k v)
         ≡ (if same_part q k then Some v else lookup (same_part q) (e ∷ seen))
-    by_key true is = at_key (same_part q e.0) (same_part q k)
+    by_key true is rest = at_key (same_part q e.0) (same_part q k)
         (ap (same_part q) (sym (same_true k e.0 is)))
-    by_key false is =
-        ap (λ rest. if same_part q e.0 then Some e.1 else rest) (lookup_kept seen k q v)
+    by_key false is rest =
+        ap (λ found. if same_part q e.0 then Some e.1 else found) rest
         ∙ past_key (same_part q e.0) (same_part q k) (not_both is)
 
 -- the places, once one more is kept
@@ -265,8 +267,8 @@ seen_marked s visits seen p at next within before there are =
                   (key_old seen place (place_of p.id n) end (are.done n (omega (arith, j, low)) under)))
               | inr over ↦ inr (i, omega (arith, j, before), over, omega (arith, high, last))
             ]))
-        | inr was ↦ (let then = are.behind id k w was in
-            (then.0, λ n low high. elim (then.1 n low high) [
+        | inr was ↦ (let before_ = are.behind id k w was in
+            (before_.0, λ n low high. elim (before_.1 n low high) [
               | inl is ↦ inl (key_old seen place (place_of id n) end is)
               | inr left ↦ inr left
             ]))
@@ -361,13 +363,13 @@ seen_first s visits = record {
     none_of : (w : ℕ) → None ≡ Some w → ⊥
     none_of w h = cc
 
+none_more : (visits : List PartValue) → visits ≡ with_visits visits []
+unfolding with_visits
+none_more visits = refl
+
 -- no procedure is added
 pub added_none : (s : StoreValue) (p : PartValue) (visits : List PartValue) → AreAdded s p visits visits
 added_none s p visits = record { added = []; is = none_more visits; among = λ r h. cc }
-  where
-    none_more : (visits : List PartValue) → visits ≡ with_visits visits []
-    unfolding with_visits
-    none_more visits = refl
 
 with_both : (visits some more : List PartValue) →
     with_visits (with_visits visits some) more ≡ with_visits visits (some ++ more)
@@ -378,12 +380,12 @@ with_both visits (r ∷ some) more = with_both (with_visit visits r) some more
 -- procedures are added, and then more
 pub added_more : (s : StoreValue) (p : PartValue) (old mid new : List PartValue) → AreAdded s p old mid →
     AreAdded s p mid new → AreAdded s p old new
-added_more s p old mid new first then = record {
-  added = first.added ++ then.added;
-  is = then.is ∙ (ap (λ v. with_visits v then.added) first.is ∙ with_both old first.added then.added);
-  among = λ r h. elim (has_cases first.added then.added r h) [
+added_more s p old mid new first second = record {
+  added = first.added ++ second.added;
+  is = second.is ∙ (ap (λ v. with_visits v second.added) first.is ∙ with_both old first.added second.added);
+  among = λ r h. elim (has_cases first.added second.added r h) [
     | inl one ↦ first.among r one
-    | inr two ↦ then.among r two
+    | inr two ↦ second.among r two
   ];
 }
 
@@ -395,6 +397,12 @@ found_is (Some q) visits = (q ∷ [], refl, λ r h. elim (or_cases (same_part r 
   | inl same ↦ ap (λ x. Some x) (sym (same_true r q same))
   | inr wrong ↦ cc
 ])
+
+-- what is reached stays so
+pub added_old : (s : StoreValue) (p : PartValue) (old new : List PartValue) (q : PartValue) → AreAdded s p old new →
+    has old q ≡ true → has new q ≡ true
+added_old s p old new q more h =
+    subst (λ v. has v q ≡ true) (sym more.is) (visits_old more.added old q h)
 
 -- the procedure at a place is added
 pub added_found : (s : StoreValue) (p : PartValue) (visits : List PartValue) (at : ℕ) → at < p.len →

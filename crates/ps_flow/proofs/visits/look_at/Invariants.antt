@@ -6,6 +6,7 @@ use Rattle.ps_flow.proofs.visits.look_at.Given as goal
 -- the places before this one were looked at, and the procedures that stand there are reached
 abbrev pub invariant-loop-at : goal.invariant-loop-at
 invariant-loop-at l = record {
+  same : l.p ≡ l.fn.p;
   seen : AreSeen l.store l.visits l.places l.p l.at;
   visited : has l.visits l.p ≡ true;
   kept : (id k : ℕ) → is_seen l.fn.places id k ≡ true → is_seen l.places id k ≡ true;

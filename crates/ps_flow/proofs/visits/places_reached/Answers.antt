@@ -2,6 +2,7 @@ use Rattle.std.proofs.Common.{◌≡◌, ◌∙◌, Some, None, ap, subst, sym}
 use Rattle.std.specs.List.{slice_get}
 use Rattle.ps_flow.specs.Code.Visits.{with_visit}
 use Rattle.ps_flow.proofs.GoingLemmas.{IsGoing, going_all, going_fewer, going_first, going_more}
+use Rattle.ps_flow.proofs.VisitLemmas.{at_place}
 use Rattle.ps_flow.proofs.visits.places_reached.Goals as goal
 
 pub loop-q-init : goal.loop-q-init
@@ -12,6 +13,10 @@ loop-q-init c =
     subst (λ places. IsGoing s p c.add.new.self places 0) (sym c.new-places.ensures)
     (subst (λ visits. IsGoing s p visits _ 0)
     (sym (new ∙ ap (λ visits. with_visit visits p) c.new-visits.ensures)) (going_first s p))
+
+pub look_at-requires-clause-visited : goal.look_at-requires-clause-visited
+look_at-requires-clause-visited c =
+    at_place c.loop-q.visits c.loop-q.number c.in-Some.q (sym c.at.ensures.value ∙ c.in-Some.is)
 
 pub loop-q-preserved : goal.loop-q-preserved
 loop-q-preserved c =
