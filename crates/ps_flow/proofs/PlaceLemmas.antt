@@ -41,14 +41,14 @@ lookup_kept (e ∷ seen) k q v = by_key (same_part k e.0) refl (lookup_kept seen
     past_key false c h = refl
 
     not_both : same_part k e.0 ≡ false → same_part q e.0 ≡ true → same_part q k ≡ false
-    not_both no yes = other (same_part q k) refl
+    not_both apart same = other (same_part q k) refl
       where
         other : (b : Bool) → same_part q k ≡ b → b ≡ false
         other false is = refl
         other true is =
-            let one : q ≡ e.0 = same_true q e.0 yes in
+            let one : q ≡ e.0 = same_true q e.0 same in
             let two : q ≡ k = same_true q k is in
-            let same : same_part k e.0 ≡ true = subst (λ x. same_part x e.0 ≡ true) two yes in cc
+            let both : same_part k e.0 ≡ true = subst (λ x. same_part x e.0 ≡ true) two same in cc
 
     by_key : (b : Bool) → same_part k e.0 ≡ b
         → lookup (same_part q) (insert_entry same_part seen k v)
