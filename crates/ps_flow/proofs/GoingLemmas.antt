@@ -1,17 +1,17 @@
 -- The procedures that were reached, and the places that were looked at, one procedure after the other.
-use Rattle.std.proofs.Common.{◌≡◌, ◌≤◌, ◌<◌, ◌+◌, ◌-◌, ◌++◌, inl, inr, length, take, Bool, true, false, ℕ, List, []}
-use Rattle.std.proofs.Common.{◌∷◌, Option, Some, None, refl, ap, ◌∙◌, sym, subst, arith, nat_eq, nat_le, nat_lt}
+use Rattle.std.proofs.Common.{◌≡◌, ◌≤◌, ◌<◌, ◌+◌, ◌-◌, ◌++◌, inl, inr, length, take, true, false, ℕ, List, []}
+use Rattle.std.proofs.Common.{◌∷◌, Some, None, ap, ◌∙◌, sym, subst, arith, nat_eq, nat_le, nat_lt}
 use Rattle.std.proofs.Math.Seq.{take-length}
 use Rattle.std.proofs.lemmas.Bool.{eqb-true, leb-true, ltb-true}
 use Rattle.std.proofs.lemmas.List.{take_more}
 use Rattle.std.proofs.lemmas.Option.{get_or_from_slice_get, slice_get_cases, slice_get_within}
-use Rattle.std.specs.List.{list_any, slice_get}
+use Rattle.std.specs.List.{slice_get}
 use Rattle.std.specs.Map.{keys_of}
 use Rattle.ps_store.specs.Parts.{PartValue}
 use Rattle.ps_store.specs.Store.{StoreValue}
-use Rattle.ps_flow.specs.Binding.{Reaches, here, further, covers, has, procedures_in, procedures_with, same_part}
+use Rattle.ps_flow.specs.Binding.{Reaches, here, further, covers, has, procedures_with, same_part}
 use Rattle.ps_flow.specs.Code.Places.{AreAdded, AreFound, AreSeen, IsDone, is_seen, nothing_in_hand, place_of}
-use Rattle.ps_flow.specs.Code.Visits.{unvisited, with_visit, with_visits}
+use Rattle.ps_flow.specs.Code.Visits.{unvisited, with_visit}
 use Rattle.ps_flow.proofs.BindLemmas.{any_has, has_any, same_test}
 use Rattle.ps_flow.proofs.PlaceLemmas.{covered_by, seen_first}
 use Rattle.ps_flow.proofs.ReachLemmas.{and_parts, has_cases, or_cases, or_left, place_from, reached_in_store, same_itself}

@@ -1,8 +1,8 @@
 -- The places that were looked at.
-use Rattle.std.proofs.Common.{◌≡◌, ◌≢◌, ◌≤◌, ◌<◌, ◌+◌, ◌-◌, ◌++◌, ◌⊎◌, inl, inr, Bool, true, false, ◌||◌, ◌&&◌, nat_le}
+use Rattle.std.proofs.Common.{◌≡◌, ◌≤◌, ◌<◌, ◌+◌, ◌-◌, ◌++◌, ◌⊎◌, inl, inr, Bool, true, false, ◌||◌, nat_le}
 use Rattle.std.proofs.Common.{nat_lt, nat_eq, if◌then◌else◌, ℕ, zero, suc, List, [], ◌∷◌, Option, Some, None, refl, ap, ◌∙◌, sym}
 use Rattle.std.proofs.Common.{subst, arith}
-use Rattle.std.proofs.lemmas.Bool.{cases_lt, eqb-true, eq-eqb, leb-true, le-leb, ltb-true, lt-ltb}
+use Rattle.std.proofs.lemmas.Bool.{cases_lt, eq-eqb, le-leb, lt-ltb}
 use Rattle.std.proofs.lemmas.Bool.Decides.{eqb_tells}
 use Rattle.std.proofs.lemmas.Map.Made.{is_some-lookup}
 use Rattle.std.specs.List.{list_any, slice_get}
@@ -11,14 +11,14 @@ use Rattle.std.specs.Option.{is_some, option_map}
 use Rattle.indexmap.specs.IndexMap.{insert_entry}
 use Rattle.ps_store.specs.Parts.{PartValue}
 use Rattle.ps_store.specs.Store.{StoreValue}
-use Rattle.ps_flow.specs.Binding.{covers, has, procedure_at, procedures_in, same_part}
-use Rattle.ps_flow.specs.Code.Places.{AreAdded, AreSeen, IsDone, IsLeft, is_seen, nothing_in_hand, passed, place_of}
+use Rattle.ps_flow.specs.Binding.{covers, has, procedure_at, same_part}
+use Rattle.ps_flow.specs.Code.Places.{AreAdded, AreSeen, IsDone, is_seen, nothing_in_hand, passed, place_of}
 use Rattle.ps_flow.specs.Code.Places.{procedure_in}
 use Rattle.ps_flow.specs.Code.Visits.{with_found, with_visit, with_visits}
-use Rattle.ps_flow.proofs.ReachLemmas.{and_both, and_parts, has_cases, has_from, or_cases, or_left, or_right}
+use Rattle.ps_flow.proofs.ReachLemmas.{and_both, has_cases, has_from, or_cases, or_left, or_right}
 use Rattle.ps_flow.proofs.ReachLemmas.{same_itself, same_true}
 use Rattle.ps_flow.proofs.BindLemmas.{any_has, has_any}
-use Rattle.ps_flow.proofs.VisitLemmas.{one_old, one_new, visits_new, visits_old}
+use Rattle.ps_flow.proofs.VisitLemmas.{one_old, one_new, visits_old}
 
 -- a value that is kept with a place, after another was kept
 lookup_kept : (seen : List (PartValue × ℕ)) (k q : PartValue) (v : ℕ) →
@@ -100,14 +100,14 @@ kept_cases : (seen : List (PartValue × ℕ)) (k q : PartValue) (v w : ℕ) →
     lookup (same_part q) (insert_entry same_part seen k v) ≡ Some w →
     ((q ≡ k) × (w ≡ v)) ⊎ (lookup (same_part q) seen ≡ Some w)
 kept_cases seen k q v w h = by_test (same_part q k) refl
-    where
-      by_test : (b : Bool) → same_part q k ≡ b → ((q ≡ k) × (w ≡ v)) ⊎ (lookup (same_part q) seen ≡ Some w)
-      by_test true is =
-          let value : Some v ≡ Some w = ap (λ c. if c then Some v else lookup (same_part q) seen) (sym is)
-          ∙ (sym (lookup_kept seen k q v) ∙ h) in
-          let e : w ≡ v = cc in inl (same_true q k is, e)
-      by_test false is = inr (ap (λ c. if c then Some v else lookup (same_part q) seen) (sym is)
-          ∙ (sym (lookup_kept seen k q v) ∙ h))
+  where
+    by_test : (b : Bool) → same_part q k ≡ b → ((q ≡ k) × (w ≡ v)) ⊎ (lookup (same_part q) seen ≡ Some w)
+    by_test true is =
+        let value : Some v ≡ Some w = ap (λ c. if c then Some v else lookup (same_part q) seen) (sym is)
+        ∙ (sym (lookup_kept seen k q v) ∙ h) in
+        let e : w ≡ v = cc in inl (same_true q k is, e)
+    by_test false is = inr (ap (λ c. if c then Some v else lookup (same_part q) seen) (sym is)
+        ∙ (sym (lookup_kept seen k q v) ∙ h))
 
 -- places are one where their numbers are
 same_place_id : (i k j l : ℕ) → place_of i k ≡ place_of j l → i ≡ j
@@ -187,20 +187,23 @@ seen_new s visits seen p at within visited are =
       behind = λ id k next h. elim (kept_cases seen place (place_of id k) end next h) [
         | inl new ↦ (let i : id ≡ p.id = same_place_id id k p.id (p.start + at) new.0 in
             let j : k ≡ p.start + at = same_place_at id k p.id (p.start + at) new.0 in
-            let last : next ≡ end = new.1 in
-            (omega (arith, j, last, within),
-            λ n low high. elim (which_left (p.start + at) n (omega (arith, j, low))) [
-              | inl e ↦ inl (subst (λ x. is_seen now x n ≡ true) (sym i) (here_ n e))
-              | inr left ↦ inr (i, omega (arith, j), omega (arith, left), omega (arith, high, last))
-            ]))
-        | inr old ↦ (let before = are.behind id k next old in
-            (before.0, λ n low high. elim (before.1 n low high) [
-              | inl there ↦ inl (key_old seen place (place_of id n) end there)
-              | inr left ↦ elim (which_left (p.start + at) n left.2) [
-                | inl e ↦ inl (subst (λ x. is_seen now x n ≡ true) (sym left.0) (here_ n e))
-                | inr further ↦ inr (left.0, omega (arith, left.1), omega (arith, further), left.3)
-              ]
-            ]))
+            let last : next ≡ end = new.1 in (
+              omega (arith, j, last, within),
+              λ n low high. elim (which_left (p.start + at) n (omega (arith, j, low))) [
+                | inl e ↦ inl (subst (λ x. is_seen now x n ≡ true) (sym i) (here_ n e))
+                | inr left ↦ inr (i, omega (arith, j), omega (arith, left), omega (arith, high, last))
+              ],
+            ))
+        | inr old ↦ (let before = are.behind id k next old in (
+          before.0,
+          λ n low high. elim (before.1 n low high) [
+            | inl there ↦ inl (key_old seen place (place_of id n) end there)
+            | inr left ↦ elim (which_left (p.start + at) n left.2) [
+              | inl e ↦ inl (subst (λ x. is_seen now x n ≡ true) (sym left.0) (here_ n e))
+              | inr further ↦ inr (left.0, omega (arith, left.1), omega (arith, further), left.3)
+            ]
+          ],
+        ))
       ];
       done = λ k low high. elim (which_left k (p.start + at) (omega (arith, high))) [
         | inl e ↦ here_ k (sym e)
@@ -225,15 +228,17 @@ seen_passed s visits seen p at next within are is =
       sound = are.sound;
       closed = are.closed;
       behind = λ id k w h.
-          let before = are.behind id k w h in
-          (before.0, λ j low high. elim (before.1 j low high) [
-            | inl there ↦ inl there
-            | inr left ↦ elim (cases_lt j next) [
-              | inl under ↦ inl (subst (λ x. is_seen seen x j ≡ true) (sym left.0) (between j left.2 under))
-              | inr over ↦ (let more = here_.0 in
-                  inr (left.0, omega (arith, left.1, more, far), omega (arith, over, far), left.3))
-            ]
-          ]);
+          let before = are.behind id k w h in (
+            before.0,
+            λ j low high. elim (before.1 j low high) [
+              | inl there ↦ inl there
+              | inr left ↦ elim (cases_lt j next) [
+                | inl under ↦ inl (subst (λ x. is_seen seen x j ≡ true) (sym left.0) (between j left.2 under))
+                | inr over ↦ (let more = here_.0 in
+                    inr (left.0, omega (arith, left.1, more, far), omega (arith, over, far), left.3))
+              ]
+            ],
+          );
       done = λ k low high. elim (cases_lt k (p.start + at)) [
         | inl under ↦ are.done k low under
         | inr over ↦ between k over (omega (arith, high, far))
@@ -260,18 +265,21 @@ seen_marked s visits seen p at next within before there are =
       behind = λ id k w h. elim (kept_cases seen place (place_of id k) end w h) [
         | inl new ↦ (let i : id ≡ p.id = same_place_id id k p.id (p.start + at) new.0 in
             let j : k ≡ p.start + at = same_place_at id k p.id (p.start + at) new.0 in
-            let last : w ≡ end = new.1 in
-            (omega (arith, j, last, within),
-            λ n low high. elim (cases_lt n (p.start + next)) [
-              | inl under ↦ inl (subst (λ x. is_seen now x n ≡ true) (sym i)
-                  (key_old seen place (place_of p.id n) end (are.done n (omega (arith, j, low)) under)))
-              | inr over ↦ inr (i, omega (arith, j, before), over, omega (arith, high, last))
-            ]))
-        | inr was ↦ (let before_ = are.behind id k w was in
-            (before_.0, λ n low high. elim (before_.1 n low high) [
-              | inl is ↦ inl (key_old seen place (place_of id n) end is)
-              | inr left ↦ inr left
-            ]))
+            let last : w ≡ end = new.1 in (
+              omega (arith, j, last, within),
+              λ n low high. elim (cases_lt n (p.start + next)) [
+                | inl under ↦ inl (subst (λ x. is_seen now x n ≡ true) (sym i)
+                    (key_old seen place (place_of p.id n) end (are.done n (omega (arith, j, low)) under)))
+                | inr over ↦ inr (i, omega (arith, j, before), over, omega (arith, high, last))
+              ],
+            ))
+        | inr was ↦ (let before_ = are.behind id k w was in (
+          before_.0,
+          λ n low high. elim (before_.1 n low high) [
+            | inl is ↦ inl (key_old seen place (place_of id n) end is)
+            | inr left ↦ inr left
+          ],
+        ))
       ];
       done = λ k low high. key_old seen place (place_of p.id k) end (are.done k low high);
     }
@@ -321,11 +329,13 @@ seen_begin s visits seen p are = record {
   sound = are.sound;
   closed = are.closed;
   behind = λ id k w h.
-      let before = are.behind id k w h in
-      (before.0, λ j low high. elim (before.1 j low high) [
-        | inl there ↦ inl there
-        | inr left ↦ absurd (omega (arith, left.2, left.3))
-      ]);
+      let before = are.behind id k w h in (
+        before.0,
+        λ j low high. elim (before.1 j low high) [
+          | inl there ↦ inl there
+          | inr left ↦ absurd (omega (arith, left.2, left.3))
+        ],
+      );
   done = λ k low high. absurd (omega (arith, low, high));
 }
 
@@ -337,11 +347,13 @@ seen_end s visits seen p at past are = record {
   sound = are.sound;
   closed = are.closed;
   behind = λ id k w h.
-      let before = are.behind id k w h in
-      (before.0, λ j low high. elim (before.1 j low high) [
-        | inl there ↦ inl there
-        | inr left ↦ absurd (omega (arith, past, left.2, left.3))
-      ]);
+      let before = are.behind id k w h in (
+        before.0,
+        λ j low high. elim (before.1 j low high) [
+          | inl there ↦ inl there
+          | inr left ↦ absurd (omega (arith, past, left.2, left.3))
+        ],
+      );
   done = λ k low high. absurd (omega (arith, low, high));
 }
 
@@ -393,10 +405,14 @@ found_is : (found : Option PartValue) (visits : List PartValue) → (added : Lis
     (with_found visits found ≡ with_visits visits added) × ((r : PartValue) → has added r ≡ true → found ≡ Some r)
 unfolding with_visits
 found_is None visits = ([], refl, λ r h. cc)
-found_is (Some q) visits = (q ∷ [], refl, λ r h. elim (or_cases (same_part r q) false h) [
-  | inl same ↦ ap (λ x. Some x) (sym (same_true r q same))
-  | inr wrong ↦ cc
-])
+found_is (Some q) visits = (
+  q ∷ [],
+  refl,
+  λ r h. elim (or_cases (same_part r q) false h) [
+    | inl same ↦ ap (λ x. Some x) (sym (same_true r q same))
+    | inr wrong ↦ cc
+  ],
+)
 
 -- what is reached stays so
 pub added_old : (s : StoreValue) (p : PartValue) (old new : List PartValue) (q : PartValue) → AreAdded s p old new →

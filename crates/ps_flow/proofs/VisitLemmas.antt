@@ -1,18 +1,14 @@
 -- The procedures that were reached, one by one.
-use Rattle.std.proofs.Common.{◌≡◌, ◌≤◌, ◌<◌, ◌+◌, ◌-◌, ◌++◌, ◌⊎◌, inl, inr, length, take, Bool, true, false}
-use Rattle.std.proofs.Common.{if◌then◌else◌, ℕ, zero, suc, List, [], ◌∷◌, Option, Some, None, refl, ap, ◌∙◌, sym, subst}
+use Rattle.std.proofs.Common.{◌≡◌, ◌≤◌, ◌+◌, ◌++◌, ◌⊎◌, inl, inr, length, take, Bool, true, false}
+use Rattle.std.proofs.Common.{if◌then◌else◌, ℕ, zero, suc, List, [], ◌∷◌, Some, refl, ◌∙◌, sym, subst}
 use Rattle.std.proofs.Common.{arith}
-use Rattle.std.proofs.Math.Seq.{take-length}
-use Rattle.std.proofs.lemmas.List.{length_push, take-append-le, take_more}
-use Rattle.std.proofs.lemmas.Option.{get_or_from_slice_get, slice_get_cases, slice_get_within}
-use Rattle.std.specs.List.{cons_option, slice_get}
+use Rattle.std.proofs.lemmas.List.{length_push, take-append-le}
+use Rattle.std.specs.List.{slice_get}
 use Rattle.ps_store.specs.Parts.{PartValue}
-use Rattle.ps_store.specs.Store.{StoreValue}
-use Rattle.ps_flow.specs.Binding.{Reaches, here, further, has, same_part, procedures_from, procedures_in}
-use Rattle.ps_flow.specs.Binding.{procedures_with, procedure_at}
-use Rattle.ps_flow.specs.Code.Visits.{AreReached, missing, unvisited, with_visit, with_visits, with_found}
+use Rattle.ps_flow.specs.Binding.{has, same_part}
+use Rattle.ps_flow.specs.Code.Visits.{missing, unvisited, with_visit, with_visits}
 use Rattle.ps_flow.proofs.ReachLemmas.{or_left, or_right, or_cases, same_true, same_itself, has_left, has_right}
-use Rattle.ps_flow.proofs.ReachLemmas.{has_cases, has_from, place_from, reached_in_store}
+use Rattle.ps_flow.proofs.ReachLemmas.{has_cases}
 
 -- one procedure more: what was there stays
 pub one_old : (b : Bool) (visits : List PartValue) (r q : PartValue) → has visits q ≡ true →

@@ -141,13 +141,7 @@ fn look_at(visits: &mut Visits, places: &mut Places, store: &Store, p: Part) -> 
 }
 
 /// Looks at a place of a procedure, or passes those from it on that were looked at. Answers the place behind.
-fn look_once(
-    visits: &mut Visits,
-    places: &mut Places,
-    store: &Store,
-    p: Part,
-    at: u32,
-) -> Mem<u32>
+fn look_once(visits: &mut Visits, places: &mut Places, store: &Store, p: Part, at: u32) -> Mem<u32>
     requires within { at < p.len }
     requires seen { AreSeen store.now visits.old places.old p at }
     requires visited { has visits.old p ≡ true }
