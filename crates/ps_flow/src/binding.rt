@@ -2,7 +2,6 @@
 ghost use Rattle.std.specs.Prelude.{◌≡◌, OnOk, option_and_then};
 ghost use Rattle.ps_store.specs.Store.{object_at, operator_of};
 ghost use Rattle.ps_flow.specs.Binding.{bind_store, operator_named};
-ghost use Rattle.ps_flow.specs.BindLaw.{BindsExactly};
 ghost use Rattle.std.specs.Map.{keys_of};
 ghost use Rattle.ps_flow.specs.Code.BindSteps.{replaced, bound_at, bound_from, bound_all};
 
@@ -15,8 +14,7 @@ use std::alloc::Global;
 /// Replaces the executable names whose value is an operator, in a procedure and in all that are reached through
 /// elements, at each place once, also where they overlap.
 pub(crate) fn bind_procedure(alloc: Global, store: &mut Store, dicts: &Dicts, p: Part) -> Mem<()>
-    ensures value { OnOk result (store.new ≡ bind_store dicts.now store.old p) }
-    ensures law { OnOk result (BindsExactly dicts.now store.old p store.new) }
+    ensures { OnOk result (store.new ≡ bind_store dicts.now store.old p) }
 {
     let places = places_reached(alloc, store, p)?;
     bind_all(store, dicts, &places);
