@@ -22,13 +22,13 @@ use Rattle.ps_store.specs.Store.{StoreValue, bytes_in, entries_in, found, object
 use Rattle.ps_store.specs.Store.{put_in, with_changed}
 use Rattle.ps_flow.specs.Binding.{Reaches, here, further, bind_store, bound, bound_to, changed_in, changed_items}
 use Rattle.ps_flow.specs.Binding.{changed_made, changed_store, covers, has, is_reached_place, operator_named}
-use Rattle.ps_flow.specs.Binding.{procedures_with, reaches, same_part}
+use Rattle.ps_flow.specs.Binding.{reached, same_part}
 use Rattle.ps_flow.specs.BindLaw.{BindsExactly}
 use Rattle.ps_flow.specs.Code.BindSteps.{bound_all, bound_at, bound_from, replaced}
 use Rattle.ps_flow.specs.Code.Places.{AreFound}
 use Rattle.ps_flow.specs.Code.Visits.{AreReached}
 use Rattle.ps_flow.proofs.ReachLemmas.{or_left, or_right, or_cases, and_both, and_parts, same_true, same_itself}
-use Rattle.ps_flow.proofs.ReachLemmas.{reaches_sound, reaches_whole, reached_in_store}
+use Rattle.ps_flow.proofs.ReachedLemmas.{reached_sound, reached_whole}
 
 -- the entries of dictionaries stay
 entries_stay : (test : ℕ → ℕ → Bool) (change : Obj → Obj) (made : List Composite) (id : ℕ) →
@@ -365,16 +365,14 @@ pub reached_place_whole : (s : StoreValue) (p q : PartValue) (id at : ℕ) → R
     is_reached_place s p id at ≡ true
 unfolding is_reached_place
 reached_place_whole s p q id at way covered =
-    has_any (λ x. reaches s p x && covers x id at) (procedures_with p s) q (reached_in_store s p q way)
-    (and_both (reaches s p q) (covers q id at) (reaches_whole s p q way) covered)
+    has_any (λ x. covers x id at) (reached s p) q (reached_whole s p q way) covered
 
 pub reached_place_sound : (s : StoreValue) (p : PartValue) (id at : ℕ) → is_reached_place s p id at ≡ true →
     (q : PartValue) × Reaches s p q × (covers q id at ≡ true)
 unfolding is_reached_place
 reached_place_sound s p id at h =
-    let found = any_has (λ x. reaches s p x && covers x id at) (procedures_with p s) h in
-    let both = and_parts (reaches s p found.0) (covers found.0 id at) found.2 in
-    (found.0, reaches_sound s p found.0 both.0, both.1)
+    let found = any_has (λ x. covers x id at) (reached s p) h in
+    (found.0, reached_sound s p found.0 found.1, found.2)
 
 -- the places of these are the places that are reached
 places_reached : (s : StoreValue) (p : PartValue) (visits : List PartValue) → AreReached s p visits → (i j : ℕ) →

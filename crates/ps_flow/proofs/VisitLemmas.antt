@@ -95,15 +95,17 @@ fewer_missing true false h = let no : false ≡ true = h refl in cc
 fewer_missing false true h = omega arith
 fewer_missing false false h = omega arith
 
-unvisited_no_more : (visits procedures : List PartValue) (r : PartValue) →
-    unvisited (visits ++ r ∷ []) procedures ≤ unvisited visits procedures
+-- no more weren't reached yet where more were
+pub unvisited_no_more : (visits more procedures : List PartValue) →
+    ((q : PartValue) → has visits q ≡ true → has more q ≡ true)
+    → unvisited more procedures ≤ unvisited visits procedures
 unfolding unvisited
-unvisited_no_more visits [] r = omega arith
-unvisited_no_more visits (c ∷ procedures) r =
-    let here_ : missing (has (visits ++ r ∷ []) c) ≤ missing (has visits c) =
-    fewer_missing (has visits c) (has (visits ++ r ∷ []) c) (has_left visits (r ∷ []) c) in
-    let rest : unvisited (visits ++ r ∷ []) procedures ≤ unvisited visits procedures =
-    unvisited_no_more visits procedures r in
+unvisited_no_more visits more [] stay = omega arith
+unvisited_no_more visits more (c ∷ procedures) stay =
+    let here_ : missing (has more c) ≤ missing (has visits c) =
+    fewer_missing (has visits c) (has more c) (stay c) in
+    let rest : unvisited more procedures ≤ unvisited visits procedures =
+    unvisited_no_more visits more procedures stay in
     omega (arith, here_, rest)
 
 missing_true : (b : Bool) → b ≡ true → missing (b) ≡ 0
@@ -114,7 +116,8 @@ missing_false : (b : Bool) → b ≡ false → missing (b) ≡ 1
 missing_false true h = cc
 missing_false false h = refl
 
-unvisited_fewer : (visits procedures : List PartValue) (r : PartValue) → has visits r ≡ false →
+-- one fewer where one of them is reached that wasn't
+pub unvisited_fewer : (visits procedures : List PartValue) (r : PartValue) → has visits r ≡ false →
     has procedures r ≡ true → unvisited (visits ++ r ∷ []) procedures + 1 ≤ unvisited visits procedures
 unfolding unvisited
 unvisited_fewer visits [] r new among = cc
@@ -127,7 +130,7 @@ unvisited_fewer visits (c ∷ procedures) r new among = elim (or_cases (same_par
       (subst (λ x. same_part c x ≡ true) (sym e) (same_itself c))) in
       let after : missing (has (visits ++ r ∷ []) c) ≡ 0 = missing_true (has (visits ++ r ∷ []) c) there in
       let rest : unvisited (visits ++ r ∷ []) procedures ≤ unvisited visits procedures =
-      unvisited_no_more visits procedures r in
+      unvisited_no_more visits (visits ++ r ∷ []) procedures (has_left visits (r ∷ [])) in
       omega (arith, before, after, rest))
   | inr later ↦ (let one : missing (has (visits ++ r ∷ []) c) ≤ missing (has visits c) =
       fewer_missing (has visits c) (has (visits ++ r ∷ []) c) (has_left visits (r ∷ []) c) in
