@@ -14,8 +14,8 @@ use Rattle.ps_flow.specs.Code.Places.{AreAdded, AreFound, AreSeen, IsDone, is_se
 use Rattle.ps_flow.specs.Code.Visits.{unvisited, with_visit}
 use Rattle.ps_flow.proofs.BindLemmas.{any_has, has_any, same_test}
 use Rattle.ps_flow.proofs.PlaceLemmas.{covered_by, seen_first}
-use Rattle.ps_flow.proofs.ReachLemmas.{and_parts, has_cases, or_cases, or_left, place_from, reached_in_store, same_itself}
-use Rattle.ps_flow.proofs.ReachLemmas.{same_true}
+use Rattle.ps_flow.proofs.ReachLemmas.{and_parts, has_cases, or_cases, or_left, place_from, reached_in_store}
+use Rattle.ps_flow.proofs.ReachLemmas.{same_itself, same_true}
 use Rattle.ps_flow.proofs.VisitLemmas.{at_place, visits_cases, visits_front, visits_longer, visits_measure, visits_old}
 
 -- all of them are reached, and all places of those before a number were looked at

@@ -1,7 +1,7 @@
 -- The places that were looked at.
 use Rattle.std.proofs.Common.{◌≡◌, ◌≤◌, ◌<◌, ◌+◌, ◌-◌, ◌++◌, ◌⊎◌, inl, inr, Bool, true, false, ◌||◌, nat_le}
-use Rattle.std.proofs.Common.{nat_lt, nat_eq, if◌then◌else◌, ℕ, zero, suc, List, [], ◌∷◌, Option, Some, None, refl, ap, ◌∙◌, sym}
-use Rattle.std.proofs.Common.{subst, arith}
+use Rattle.std.proofs.Common.{nat_lt, nat_eq, if◌then◌else◌, ℕ, zero, suc, List, [], ◌∷◌, Option, Some, None, refl, ap}
+use Rattle.std.proofs.Common.{◌∙◌, sym, subst, arith}
 use Rattle.std.proofs.lemmas.Bool.{cases_lt, eq-eqb, le-leb, lt-ltb}
 use Rattle.std.proofs.lemmas.Bool.Decides.{eqb_tells}
 use Rattle.std.proofs.lemmas.Map.Made.{is_some-lookup}
@@ -34,7 +34,8 @@ lookup_kept (e ∷ seen) k q v = by_key (same_part k e.0) refl (lookup_kept seen
     at_key true false h = cc
     at_key false true h = cc
 
-    past_key : (b c : Bool) → (b ≡ true → c ≡ false) → (if b then Some e.1 else (if c then Some v else lookup (same_part q) seen))
+    past_key : (b c : Bool) → (b ≡ true → c ≡ false)
+        → (if b then Some e.1 else (if c then Some v else lookup (same_part q) seen))
         ≡ (if c then Some v else (if b then Some e.1 else lookup (same_part q) seen))
     past_key true true h = let no : true ≡ false = h refl in cc
     past_key true false h = refl

@@ -11,7 +11,7 @@ use Rattle.ps_store.specs.declared.store.Composite.{Composite}
 use Rattle.ps_store.specs.declared.store.Composite.TheVariants.{Text, Array, Dict}
 use Rattle.ps_store.specs.Parts.{PartValue}
 use Rattle.ps_store.specs.Store.{StoreValue, object_in}
-use Rattle.ps_flow.specs.Binding.{procedure_of, procedure_at, procedures_from, procedures_in, procedures_of}
+use Rattle.ps_flow.specs.Binding.{procedure_of, procedure_at, procedures_from, procedures_of}
 use Rattle.ps_flow.specs.Binding.{procedures_with, same_part, has, Reaches, here, further}
 
 -- tests joined

@@ -1,6 +1,6 @@
 -- The procedures that are reached from one: those that the definition lists are those of the relation.
-use Rattle.std.proofs.Common.{◌≡◌, ◌≤◌, ◌<◌, ◌+◌, ◌++◌, ◌⊎◌, inl, inr, length, Bool, true, false, ℕ, zero, suc, List, []}
-use Rattle.std.proofs.Common.{◌∷◌, Some, refl, sym, subst, arith}
+use Rattle.std.proofs.Common.{◌≡◌, ◌≤◌, ◌<◌, ◌+◌, ◌++◌, ◌⊎◌, inl, inr, length, Bool, true, false, ℕ, zero, suc, List}
+use Rattle.std.proofs.Common.{[], ◌∷◌, Some, refl, sym, subst, arith}
 use Rattle.std.specs.List.{flat_map}
 use Rattle.ps_store.specs.Parts.{PartValue}
 use Rattle.ps_store.specs.Store.{StoreValue}

@@ -59,6 +59,7 @@ visits_new (r ∷ procedures) visits q h = elim (or_cases (same_part q r) (has p
   | inr later ↦ visits_new procedures (with_visit visits r) q later
 ]
 
+-- what is reached was so before, or is one of these
 pub visits_cases : (procedures visits : List PartValue) (q : PartValue) → has (with_visits visits procedures) q ≡ true →
     (has visits q ≡ true) ⊎ (has procedures q ≡ true)
 unfolding with_visits
@@ -71,6 +72,7 @@ visits_cases (r ∷ procedures) visits q h = elim (visits_cases procedures (with
   | inr later ↦ inr (or_right (same_part q r) (has procedures q) later)
 ]
 
+-- no fewer are reached
 pub visits_longer : (procedures visits : List PartValue) → length visits ≤ length (with_visits visits procedures)
 unfolding with_visits
 visits_longer [] visits = omega arith
@@ -80,6 +82,7 @@ visits_longer (r ∷ procedures) visits =
     visits_longer procedures (with_visit visits r) in
     omega (arith, one, rest)
 
+-- the first that were reached stay the first
 pub visits_front : (procedures visits : List PartValue) (n : ℕ) → n ≤ length visits →
     take n (with_visits visits procedures) ≡ take n visits
 unfolding with_visits
@@ -147,6 +150,7 @@ one_measure true visits procedures r is among = omega arith
 one_measure false visits procedures r is among =
     omega (arith, unvisited_fewer visits procedures r is among, length_push visits r)
 
+-- with these no more is left: what is reached and what is not yet, as a sum, doesn't grow
 pub visits_measure : (added visits procedures : List PartValue) →
     ((r : PartValue) → has added r ≡ true → has procedures r ≡ true)
     → unvisited (with_visits visits added) procedures + length (with_visits visits added) ≤ unvisited visits procedures

@@ -19,14 +19,16 @@ loop-at-init c =
 pub loop-at-preserved : goal.loop-at-preserved
 loop-at-preserved c =
     let s = c.args.store.now in
+    let p = c.loop-at.p in
+    let now = c.look_once.new.visits in
     let before = c.loop-at.invariant in
     let more = c.in_ok-at.ensures in
     record {
       same = before.same;
       seen = more.seen;
-      visited = added_old s c.loop-at.p c.loop-at.visits c.look_once.new.visits c.loop-at.p more.added before.visited;
+      visited = added_old s p c.loop-at.visits now p more.added before.visited;
       kept = λ id k h. more.kept id k (before.kept id k h);
-      added = added_more s c.loop-at.p c.args.visits.now c.loop-at.visits c.look_once.new.visits before.added more.added;
+      added = added_more s p c.args.visits.now c.loop-at.visits now before.added more.added;
     }
 
 pub returns-clause-seen : goal.returns-clause-seen

@@ -11,13 +11,14 @@ pub returns-in_ok-pass-in-Some-clause-seen : goal.returns-in_ok-pass-in-Some-cla
 returns-in_ok-pass-in-Some-clause-seen c =
     let s = c.args.store.now in
     let p = c.args.p in
+    let visits = c.args.visits.now in
     let start : c.p.inside.start ≡ p.start = ap (λ (q : PartValue). q.start) c.p.view_is in
     let is : lookup (same_part (place_of p.id (p.start + c.args.at))) c.args.places.now ≡ Some c.in-Some.behind =
     sym c.behind.ensures ∙ c.in-Some.is in
     subst (λ n. AreSeen s c.args.visits.now c.pass.new.places p (c.in-Some.behind - n)) (sym start)
     (subst (λ places. AreSeen s c.args.visits.now places p (c.in-Some.behind - p.start))
     (sym c.in_ok-pass-in-Some.ensures)
-    (seen_further s c.args.visits.now c.args.places.now p c.args.at c.in-Some.behind c.requires.within c.requires.seen is))
+    (seen_further s visits c.args.places.now p c.args.at c.in-Some.behind c.requires.within c.requires.seen is))
 
 pub returns-in_ok-pass-in-Some-clause-kept : goal.returns-in_ok-pass-in-Some-clause-kept
 returns-in_ok-pass-in-Some-clause-kept c = λ id k h. subst (λ places. is_seen places id k ≡ true)
