@@ -6,7 +6,7 @@ use Rattle.std.proofs.Math.Bool.{or_assoc}
 use Rattle.std.proofs.lemmas.Bool.{eqb-true, eq-eqb, leb-true, le-leb, ltb-true, lt-ltb}
 use Rattle.std.proofs.lemmas.Bool.Decides.{eqb_tells}
 use Rattle.std.specs.List.{list_any, slice_get, slice_set}
-use Rattle.std.specs.Map.{lookup}
+use Rattle.std.specs.Map.{lookup, keys_of}
 use Rattle.std.specs.Option.{option_and_then, option_map}
 use Rattle.ps_store.specs.declared.key.Key.{Key}
 use Rattle.ps_store.specs.declared.key.Key.TheVariants.{Named}
@@ -22,12 +22,13 @@ use Rattle.ps_store.specs.Store.{StoreValue, bytes_in, entries_in, found, object
 use Rattle.ps_store.specs.Store.{put_in, with_changed}
 use Rattle.ps_flow.specs.Binding.{Reaches, here, further, bind_store, bound, bound_to, changed_in, changed_items}
 use Rattle.ps_flow.specs.Binding.{changed_made, changed_store, covers, has, is_reached_place, operator_named}
-use Rattle.ps_flow.specs.Binding.{procedures_with, reaches, same_part}
+use Rattle.ps_flow.specs.Binding.{reached, same_part}
 use Rattle.ps_flow.specs.BindLaw.{BindsExactly}
 use Rattle.ps_flow.specs.Code.BindSteps.{bound_all, bound_at, bound_from, replaced}
+use Rattle.ps_flow.specs.Code.Places.{AreFound}
 use Rattle.ps_flow.specs.Code.Visits.{AreReached}
 use Rattle.ps_flow.proofs.ReachLemmas.{or_left, or_right, or_cases, and_both, and_parts, same_true, same_itself}
-use Rattle.ps_flow.proofs.ReachLemmas.{reaches_sound, reaches_whole, reached_in_store}
+use Rattle.ps_flow.proofs.ReachedLemmas.{reached_sound, reached_whole}
 
 -- the entries of dictionaries stay
 entries_stay : (test : ℕ → ℕ → Bool) (change : Obj → Obj) (made : List Composite) (id : ℕ) →
@@ -329,12 +330,13 @@ made_none change (Array items ∷ made) = ap (λ xs. Array xs ∷ changed_made (
     (items_none change items) ∙ ap (λ rest. Array items ∷ rest) (made_none change made)
 
 -- two tests that pass alike
-same_test : (a b : Bool) → (a ≡ true → b ≡ true) → (b ≡ true → a ≡ true) → a ≡ b
+pub same_test : (a b : Bool) → (a ≡ true → b ≡ true) → (b ≡ true → a ≡ true) → a ≡ b
 same_test true b h k = sym (h refl)
 same_test false true h k = k refl
 same_test false false h k = refl
 
-any_has : (test : PartValue → Bool) (parts : List PartValue) → list_any test parts ≡ true → (q : PartValue) ×
+-- one of these passes the test
+pub any_has : (test : PartValue → Bool) (parts : List PartValue) → list_any test parts ≡ true → (q : PartValue) ×
     (has parts q ≡ true) × (test q ≡ true)
 any_has test [] h = cc
 any_has test (p ∷ parts) h = elim (or_cases (test p) (list_any test parts) h) [
@@ -343,7 +345,8 @@ any_has test (p ∷ parts) h = elim (or_cases (test p) (list_any test parts) h) 
       (rest.0, or_right (same_part rest.0 p) (has parts rest.0) rest.1, rest.2))
 ]
 
-has_any : (test : PartValue → Bool) (parts : List PartValue) (q : PartValue) → has parts q ≡ true → test q ≡ true →
+-- one of these that passes the test
+pub has_any : (test : PartValue → Bool) (parts : List PartValue) (q : PartValue) → has parts q ≡ true → test q ≡ true →
     list_any test parts ≡ true
 has_any test [] q h passes = cc
 has_any test (p ∷ parts) q h passes = elim (or_cases (same_part q p) (has parts q) h) [
@@ -362,16 +365,14 @@ pub reached_place_whole : (s : StoreValue) (p q : PartValue) (id at : ℕ) → R
     is_reached_place s p id at ≡ true
 unfolding is_reached_place
 reached_place_whole s p q id at way covered =
-    has_any (λ x. reaches s p x && covers x id at) (procedures_with p s) q (reached_in_store s p q way)
-    (and_both (reaches s p q) (covers q id at) (reaches_whole s p q way) covered)
+    has_any (λ x. covers x id at) (reached s p) q (reached_whole s p q way) covered
 
 pub reached_place_sound : (s : StoreValue) (p : PartValue) (id at : ℕ) → is_reached_place s p id at ≡ true →
     (q : PartValue) × Reaches s p q × (covers q id at ≡ true)
 unfolding is_reached_place
 reached_place_sound s p id at h =
-    let found = any_has (λ x. reaches s p x && covers x id at) (procedures_with p s) h in
-    let both = and_parts (reaches s p found.0) (covers found.0 id at) found.2 in
-    (found.0, reaches_sound s p found.0 both.0, both.1)
+    let found = any_has (λ x. covers x id at) (reached s p) h in
+    (found.0, reached_sound s p found.0 found.1, found.2)
 
 -- the places of these are the places that are reached
 places_reached : (s : StoreValue) (p : PartValue) (visits : List PartValue) → AreReached s p visits → (i j : ℕ) →
@@ -382,17 +383,17 @@ places_reached s p visits are i j = same_test _ _
     (λ h. let found = any_has (λ q. covers q i j) visits h in
     reached_place_whole s p found.0 i j (are.sound found.0 found.1) found.2)
 
--- once all reached procedures are bound, the store is as `bind` leaves it
-pub bound_whole : (dicts : List ℕ) (s : StoreValue) (p : PartValue) (visits : List PartValue) → AreReached s p visits →
-    bound_all dicts s visits ≡ bind_store dicts s p
+-- once all places of the reached procedures are bound, the store is as `bind` leaves it
+pub bound_whole : (dicts : List ℕ) (s : StoreValue) (p : PartValue) (seen : List (PartValue × ℕ)) →
+    AreFound s p seen → bound_all dicts s (keys_of seen) ≡ bind_store dicts s p
 unfolding bind_store
-bound_whole dicts s p visits are =
+bound_whole dicts s p seen found =
     ap (λ (made : List Composite). bound_all dicts
-    (let k : StoreValue = record { made = made; units = s.units } in k) visits)
+    (let k : StoreValue = record { made = made; units = s.units } in k) (keys_of seen))
     (sym (made_none (bound dicts s) s.made))
-    ∙ (bound_parts dicts s visits (λ i j. false)
-    ∙ alike_store (λ i j. list_any (λ q. covers q i j) visits) (is_reached_place s p) (bound dicts s) s
-    (places_reached s p visits are))
+    ∙ (bound_parts dicts s (keys_of seen) (λ i j. false)
+    ∙ alike_store (λ i j. list_any (λ q. covers q i j) (keys_of seen)) (is_reached_place s p) (bound dicts s) s
+    (λ i j. places_reached s p found.visits found.reached i j ∙ sym (found.places i j)))
 
 -- the loops
 pub bound_more : (dicts : List ℕ) (s : StoreValue) (p : PartValue) (at len : ℕ) → at < len →

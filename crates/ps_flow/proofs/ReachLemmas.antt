@@ -11,8 +11,8 @@ use Rattle.ps_store.specs.declared.store.Composite.{Composite}
 use Rattle.ps_store.specs.declared.store.Composite.TheVariants.{Text, Array, Dict}
 use Rattle.ps_store.specs.Parts.{PartValue}
 use Rattle.ps_store.specs.Store.{StoreValue, object_in}
-use Rattle.ps_flow.specs.Binding.{procedure_of, procedure_at, procedures_from, procedures_in, procedures_of}
-use Rattle.ps_flow.specs.Binding.{procedures_with, same_part, has, leads, reaches, Reaches, here, further}
+use Rattle.ps_flow.specs.Binding.{procedure_of, procedure_at, procedures_from, procedures_of}
+use Rattle.ps_flow.specs.Binding.{procedures_with, same_part, has, Reaches, here, further}
 
 -- tests joined
 pub or_left : (a b : Bool) → a ≡ true → (a || b) ≡ true
@@ -134,90 +134,12 @@ in_made (Dict entries ∷ made) zero at r h = cc
 in_made (c ∷ made) (suc id) at r h = has_right (procedures_of c) (flat_map procedures_of made) r
     (in_made made id at r h)
 
+-- a procedure that stands at a place is one of the store's
+pub place_in_store : (s : StoreValue) (p q r : PartValue) (at : ℕ) → procedure_at s q at ≡ Some r →
+    has (procedures_with p s) r ≡ true
+place_in_store s p q r at is = or_right (same_part r p) _ (in_made s.made q.id (q.start + at) r is)
+
 -- what is reached is one of the store's, or the first
 pub reached_in_store : (s : StoreValue) (p q : PartValue) → Reaches s p q → has (procedures_with p s) q ≡ true
 reached_in_store s p _ here = or_left (same_part p p) _ (same_itself p)
-reached_in_store s p _ (further q r at way within is) =
-    or_right (same_part r p) _ (in_made s.made q.id (q.start + at) r is)
-
--- a way through more procedures
-leads_more : (s : StoreValue) (r : PartValue) (way : List PartValue) (p q : PartValue) → leads s way p q ≡ true →
-    leads s (r ∷ way) p q ≡ true
-unfolding leads
-leads_more s r way p q h = or_left (leads s way p q) _ h
-
-leads_at_once : (s : StoreValue) (way : List PartValue) (p q : PartValue) → leads s [] p q ≡ true →
-    leads s way p q ≡ true
-leads_at_once s [] p q h = h
-leads_at_once s (r ∷ way) p q h = leads_more s r way p q (leads_at_once s way p q h)
-
--- by way of one of these
-leads_by : (s : StoreValue) (way : List PartValue) (p r q : PartValue) → has way r ≡ true → leads s way p r ≡ true →
-    leads s way r q ≡ true → leads s way p q ≡ true
-unfolding leads
-leads_by s [] p r q there to from = cc
-leads_by s (c ∷ way) p r q there to from =
-    let before = or_cases (leads s way p r) (leads s way p c && leads s way c r) to in
-    let after = or_cases (leads s way r q) (leads s way r c && leads s way c q) from in
-    let by_c : leads s way p c ≡ true → leads s way c q ≡ true → leads s (c ∷ way) p q ≡ true =
-    λ a b. or_right (leads s way p q) _ (and_both (leads s way p c) (leads s way c q) a b) in
-    elim (or_cases (same_part r c) (has way r) there) [
-      | inl same ↦ (let e : r ≡ c = same_true r c same in
-          let to_c : leads s way p c ≡ true = elim before [
-            | inl a ↦ subst (λ x. leads s way p x ≡ true) e a
-            | inr a ↦
-                (and_parts _ _ a).0
-          ] in
-          let from_c : leads s way c q ≡ true = elim after [
-            | inl b ↦ subst (λ x. leads s way x q ≡ true) e b
-            | inr b ↦
-                (and_parts _ _ b).1
-          ] in
-          by_c to_c from_c)
-      | inr among ↦ elim before [
-        | inl a ↦ elim after [
-          | inl b ↦ leads_more s c way p q (leads_by s way p r q among a b)
-          | inr b ↦ by_c (leads_by s way p r c among a (and_parts _ _ b).0) (and_parts _ _ b).1
-        ]
-        | inr a ↦ elim after [
-          | inl b ↦ by_c (and_parts _ _ a).0 (leads_by s way c r q among (and_parts _ _ a).1 b)
-          | inr b ↦ by_c (and_parts _ _ a).0 (and_parts _ _ b).1
-        ]
-      ]
-    ]
-
--- ways one after the other
-joined : (s : StoreValue) (p r q : PartValue) → Reaches s p r → Reaches s r q → Reaches s p q
-joined s p r _ first here = first
-joined s p r _ first (further o q at way within is) = further o q at (joined s p r o first way) within is
-
-leads_sound : (s : StoreValue) (way : List PartValue) (p q : PartValue) → leads s way p q ≡ true → Reaches s p q
-unfolding leads
-leads_sound s [] p q h = elim (or_cases (same_part p q) (has (procedures_in s p) q) h) [
-  | inl same ↦ subst (λ x. Reaches s p x) (same_true p q same) here
-  | inr element ↦ (let place = place_from s p q 0 p.len element in
-      further p q place.0 here (omega (arith, place.1)) place.2)
-]
-leads_sound s (c ∷ way) p q h = elim (or_cases (leads s way p q) (leads s way p c && leads s way c q) h) [
-  | inl a ↦ leads_sound s way p q a
-  | inr a ↦ joined s p c q (leads_sound s way p c (and_parts _ _ a).0) (leads_sound s way c q (and_parts _ _ a).1)
-]
-
-leads_whole : (s : StoreValue) (p q : PartValue) → Reaches s p q → leads s (procedures_with p s) p q ≡ true
-unfolding leads
-leads_whole s p _ here = leads_at_once s (procedures_with p s) p p (or_left (same_part p p) _ (same_itself p))
-leads_whole s p _ (further q r at way within is) =
-    let step : leads s [] q r ≡ true = or_right (same_part q r) _
-    (has_from s q r 0 q.len at (omega arith) (omega (arith, within)) is) in
-    leads_by s (procedures_with p s) p q r (reached_in_store s p q way) (leads_whole s p q way)
-    (leads_at_once s (procedures_with p s) q r step)
-
--- the test is the relation
-pub reaches_sound : (s : StoreValue) (p q : PartValue) → reaches s p q ≡ true → Reaches s p q
-unfolding reaches
-reaches_sound s p q h = leads_sound s (procedures_with p s) p q h
-
--- the test of reaching finds each procedure that is reached
-pub reaches_whole : (s : StoreValue) (p q : PartValue) → Reaches s p q → reaches s p q ≡ true
-unfolding reaches
-reaches_whole s p q h = leads_whole s p q h
+reached_in_store s p _ (further q r at way within is) = place_in_store s p q r at is

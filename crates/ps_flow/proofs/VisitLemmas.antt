@@ -1,59 +1,23 @@
 -- The procedures that were reached, one by one.
-use Rattle.std.proofs.Common.{◌≡◌, ◌≤◌, ◌<◌, ◌+◌, ◌-◌, ◌++◌, ◌⊎◌, inl, inr, length, take, Bool, true, false}
-use Rattle.std.proofs.Common.{if◌then◌else◌, ℕ, zero, suc, List, [], ◌∷◌, Option, Some, None, refl, ap, ◌∙◌, sym, subst}
+use Rattle.std.proofs.Common.{◌≡◌, ◌≤◌, ◌+◌, ◌++◌, ◌⊎◌, inl, inr, length, take, Bool, true, false}
+use Rattle.std.proofs.Common.{if◌then◌else◌, ℕ, zero, suc, List, [], ◌∷◌, Some, refl, ◌∙◌, sym, subst}
 use Rattle.std.proofs.Common.{arith}
-use Rattle.std.proofs.Math.Seq.{take-length}
-use Rattle.std.proofs.lemmas.List.{length_push, take-append-le, take_more}
-use Rattle.std.proofs.lemmas.Option.{get_or_from_slice_get, slice_get_cases, slice_get_within}
-use Rattle.std.specs.List.{cons_option, slice_get}
+use Rattle.std.proofs.lemmas.List.{length_push, take-append-le}
+use Rattle.std.specs.List.{slice_get}
 use Rattle.ps_store.specs.Parts.{PartValue}
-use Rattle.ps_store.specs.Store.{StoreValue}
-use Rattle.ps_flow.specs.Binding.{Reaches, here, further, has, same_part, procedures_from, procedures_in}
-use Rattle.ps_flow.specs.Binding.{procedures_with, procedure_at}
-use Rattle.ps_flow.specs.Code.Visits.{AreReached, missing, unvisited, with_visit, with_visits, with_found}
+use Rattle.ps_flow.specs.Binding.{has, same_part}
+use Rattle.ps_flow.specs.Code.Visits.{missing, unvisited, with_visit, with_visits}
 use Rattle.ps_flow.proofs.ReachLemmas.{or_left, or_right, or_cases, same_true, same_itself, has_left, has_right}
-use Rattle.ps_flow.proofs.ReachLemmas.{has_cases, has_from, place_from, reached_in_store}
+use Rattle.ps_flow.proofs.ReachLemmas.{has_cases}
 
--- one more of those that are found at places
-found_first : (found : Option PartValue) (visits rest : List PartValue) →
-    with_visits (with_found visits found) rest ≡ with_visits visits (cons_option found rest)
-unfolding with_visits
-found_first (Some p) visits rest = refl
-found_first None visits rest = refl
-
--- the procedure at a place is visited, if there is one, and then those behind it
-pub add_more : (s : StoreValue) (p : PartValue) (visits : List PartValue) (at len : ℕ) → at < len
-    → with_visits (with_found visits (procedure_at s p at)) (procedures_from s p (at + 1) (len - (at + 1)))
-    ≡ with_visits visits (procedures_from s p at (len - at))
-add_more s p visits at len within =
-    found_first (procedure_at s p at) visits (procedures_from s p (at + 1) (len - (at + 1)))
-    ∙ ap (λ n. with_visits visits (procedures_from s p at n)) (left_more at len within)
-  where
-    left_more : (at len : ℕ) → at < len → suc (len - (at + 1)) ≡ len - at
-    left_more at len within = omega arith
-
--- none is left
-pub added_all : (s : StoreValue) (p : PartValue) (visits : List PartValue) (at len : ℕ) → len ≤ at →
-    with_visits visits (procedures_from s p at (len - at)) ≡ visits
-unfolding with_visits
-added_all s p visits at len past = let none : len - at ≡ 0 = omega arith in
-    ap (λ n. with_visits visits (procedures_from s p at n)) none
-
--- all of them are reached, and what those before the place hold is among them
-pub record IsWorking (s : StoreValue) (p : PartValue) (visits : List PartValue) (place : ℕ) : Type 0 where
-  pub sound : (q : PartValue) → has visits q ≡ true → Reaches s p q
-  pub first : has visits p ≡ true
-  pub closed : (q r : PartValue) (at : ℕ) → has (take place visits) q ≡ true → at < q.len →
-      procedure_at s q at ≡ Some r → has visits r ≡ true
-  pub within : place ≤ length visits
-
--- one more procedure
-one_old : (b : Bool) (visits : List PartValue) (r q : PartValue) → has visits q ≡ true →
+-- one procedure more: what was there stays
+pub one_old : (b : Bool) (visits : List PartValue) (r q : PartValue) → has visits q ≡ true →
     has (if b then visits else visits ++ r ∷ []) q ≡ true
 one_old true visits r q h = h
 one_old false visits r q h = has_left visits (r ∷ []) q h
 
-one_new : (b : Bool) (visits : List PartValue) (r : PartValue) → has visits r ≡ b →
+-- and it is there
+pub one_new : (b : Bool) (visits : List PartValue) (r : PartValue) → has visits r ≡ b →
     has (if b then visits else visits ++ r ∷ []) r ≡ true
 one_new true visits r h = h
 one_new false visits r h = has_right visits (r ∷ []) r (or_left (same_part r r) false (same_itself r))
@@ -95,6 +59,7 @@ visits_new (r ∷ procedures) visits q h = elim (or_cases (same_part q r) (has p
   | inr later ↦ visits_new procedures (with_visit visits r) q later
 ]
 
+-- what is reached was so before, or is one of these
 pub visits_cases : (procedures visits : List PartValue) (q : PartValue) → has (with_visits visits procedures) q ≡ true →
     (has visits q ≡ true) ⊎ (has procedures q ≡ true)
 unfolding with_visits
@@ -107,6 +72,7 @@ visits_cases (r ∷ procedures) visits q h = elim (visits_cases procedures (with
   | inr later ↦ inr (or_right (same_part q r) (has procedures q) later)
 ]
 
+-- no fewer are reached
 pub visits_longer : (procedures visits : List PartValue) → length visits ≤ length (with_visits visits procedures)
 unfolding with_visits
 visits_longer [] visits = omega arith
@@ -116,6 +82,7 @@ visits_longer (r ∷ procedures) visits =
     visits_longer procedures (with_visit visits r) in
     omega (arith, one, rest)
 
+-- the first that were reached stay the first
 pub visits_front : (procedures visits : List PartValue) (n : ℕ) → n ≤ length visits →
     take n (with_visits visits procedures) ≡ take n visits
 unfolding with_visits
@@ -131,15 +98,17 @@ fewer_missing true false h = let no : false ≡ true = h refl in cc
 fewer_missing false true h = omega arith
 fewer_missing false false h = omega arith
 
-unvisited_no_more : (visits procedures : List PartValue) (r : PartValue) →
-    unvisited (visits ++ r ∷ []) procedures ≤ unvisited visits procedures
+-- no more weren't reached yet where more were
+pub unvisited_no_more : (visits more procedures : List PartValue) →
+    ((q : PartValue) → has visits q ≡ true → has more q ≡ true)
+    → unvisited more procedures ≤ unvisited visits procedures
 unfolding unvisited
-unvisited_no_more visits [] r = omega arith
-unvisited_no_more visits (c ∷ procedures) r =
-    let here_ : missing (has (visits ++ r ∷ []) c) ≤ missing (has visits c) =
-    fewer_missing (has visits c) (has (visits ++ r ∷ []) c) (has_left visits (r ∷ []) c) in
-    let rest : unvisited (visits ++ r ∷ []) procedures ≤ unvisited visits procedures =
-    unvisited_no_more visits procedures r in
+unvisited_no_more visits more [] stay = omega arith
+unvisited_no_more visits more (c ∷ procedures) stay =
+    let here_ : missing (has more c) ≤ missing (has visits c) =
+    fewer_missing (has visits c) (has more c) (stay c) in
+    let rest : unvisited more procedures ≤ unvisited visits procedures =
+    unvisited_no_more visits more procedures stay in
     omega (arith, here_, rest)
 
 missing_true : (b : Bool) → b ≡ true → missing (b) ≡ 0
@@ -150,7 +119,8 @@ missing_false : (b : Bool) → b ≡ false → missing (b) ≡ 1
 missing_false true h = cc
 missing_false false h = refl
 
-unvisited_fewer : (visits procedures : List PartValue) (r : PartValue) → has visits r ≡ false →
+-- one fewer where one of them is reached that wasn't
+pub unvisited_fewer : (visits procedures : List PartValue) (r : PartValue) → has visits r ≡ false →
     has procedures r ≡ true → unvisited (visits ++ r ∷ []) procedures + 1 ≤ unvisited visits procedures
 unfolding unvisited
 unvisited_fewer visits [] r new among = cc
@@ -163,7 +133,7 @@ unvisited_fewer visits (c ∷ procedures) r new among = elim (or_cases (same_par
       (subst (λ x. same_part c x ≡ true) (sym e) (same_itself c))) in
       let after : missing (has (visits ++ r ∷ []) c) ≡ 0 = missing_true (has (visits ++ r ∷ []) c) there in
       let rest : unvisited (visits ++ r ∷ []) procedures ≤ unvisited visits procedures =
-      unvisited_no_more visits procedures r in
+      unvisited_no_more visits (visits ++ r ∷ []) procedures (has_left visits (r ∷ [])) in
       omega (arith, before, after, rest))
   | inr later ↦ (let one : missing (has (visits ++ r ∷ []) c) ≤ missing (has visits c) =
       fewer_missing (has visits c) (has (visits ++ r ∷ []) c) (has_left visits (r ∷ []) c) in
@@ -180,6 +150,7 @@ one_measure true visits procedures r is among = omega arith
 one_measure false visits procedures r is among =
     omega (arith, unvisited_fewer visits procedures r is among, length_push visits r)
 
+-- with these no more is left: what is reached and what is not yet, as a sum, doesn't grow
 pub visits_measure : (added visits procedures : List PartValue) →
     ((r : PartValue) → has added r ≡ true → has procedures r ≡ true)
     → unvisited (with_visits visits added) procedures + length (with_visits visits added) ≤ unvisited visits procedures
@@ -197,87 +168,10 @@ visits_measure (r ∷ added) visits procedures among =
     visits_measure added (with_visit visits r) procedures (λ x h. among x (or_right (same_part x r) (has added x) h)) in
     omega (arith, one, rest)
 
--- the first procedure alone
-pub working_first : (s : StoreValue) (p : PartValue) → IsWorking s p (with_visit [] p) 0
-working_first s p = record {
-  sound = λ q h. elim (or_cases (same_part q p) false h) [
-    | inl same ↦
-        subst (λ x. Reaches s p x) (sym (same_true q p same)) here
-    | inr wrong ↦ cc
-  ];
-  first = or_left (same_part p p) false (same_itself p);
-  closed = λ q r at h. cc;
-  within = omega arith;
-}
-
 -- the procedure at a place is there
-at_place : (visits : List PartValue) (place : ℕ) (q : PartValue) → slice_get visits place ≡ Some q → has visits q ≡ true
+pub at_place : (visits : List PartValue) (place : ℕ) (q : PartValue) → slice_get visits place ≡ Some q →
+    has visits q ≡ true
 at_place [] place q h = cc
 at_place (p ∷ visits) zero q h = or_left (same_part q p) (has visits q)
     (let e : p ≡ q = cc in subst (λ x. same_part q x ≡ true) (sym e) (same_itself q))
 at_place (p ∷ visits) (suc place) q h = or_right (same_part q p) (has visits q) (at_place visits place q h)
-
--- the next procedure, with what it holds
-pub working_more : (s : StoreValue) (p : PartValue) (visits : List PartValue) (place : ℕ) (q : PartValue) →
-    IsWorking s p visits place → slice_get visits place ≡ Some q
-    → IsWorking s p (with_visits visits (procedures_in s q)) (place + 1)
-working_more s p visits place q working is =
-    let added = procedures_in s q in
-    let inside : place < length visits = slice_get_within visits place q is in
-    let more : place + 1 ≤ length visits = omega (arith, inside) in
-    let front : take (place + 1) (with_visits visits added) ≡ take place visits ++ q ∷ [] =
-    visits_front added visits (place + 1) more
-    ∙ (take_more visits place q inside ∙ ap (λ x. take place visits ++ x ∷ [])
-    (get_or_from_slice_get visits place q q is)) in
-    record {
-      sound = λ r h. elim (visits_cases added visits r h) [
-        | inl old ↦ working.sound r old
-        | inr new ↦ (let at = place_from s q r 0 q.len new in
-            further q r at.0 (working.sound q (at_place visits place q is)) (omega (arith, at.1)) at.2)
-      ];
-      first = visits_old added visits p working.first;
-      closed = λ x r at among within procedure.
-          elim (has_cases (take place visits) (q ∷ []) x (ap (λ v. has v x) (sym front) ∙ among)) [
-            | inl before ↦ visits_old added visits r (working.closed x r at before within procedure)
-            | inr last ↦ elim (or_cases (same_part x q) false last) [
-              | inl same ↦ (let e : x ≡ q = same_true x q same in
-                  visits_new added visits r (has_from s q r 0 q.len at (omega arith)
-                  (subst (λ (y : PartValue). at < 0 + y.len) e (omega (arith, within)))
-                  (subst (λ y. procedure_at s y at ≡ Some r) e procedure)))
-              | inr wrong ↦ cc
-            ]
-          ];
-      within = omega (arith, more, visits_longer added visits);
-    }
-
--- all procedures
-pub working_all : (s : StoreValue) (p : PartValue) (visits : List PartValue) (place : ℕ) → IsWorking s p visits place →
-    slice_get visits place ≡ None → AreReached s p visits
-working_all s p visits place working none =
-    let past : length visits ≤ place = elim (slice_get_cases visits place).1 [
-      | inl found ↦
-          (let at = found.2 in cc)
-      | inr past ↦ past.0
-    ] in
-    let whole : place ≡ length visits = (let w = working.within in omega (arith, past, w)) in
-    record {
-      sound = working.sound;
-      first = working.first;
-      closed = λ q r at h. working.closed q r at
-          (ap (λ v. has v q) (ap (λ n. take n visits) whole ∙ take-length visits) ∙ h);
-    }
-
--- fewer are left
-pub working_fewer : (s : StoreValue) (p : PartValue) (visits : List PartValue) (place : ℕ) (q : PartValue) →
-    IsWorking s p visits place → slice_get visits place ≡ Some q
-    → unvisited (with_visits visits (procedures_in s q)) (procedures_with p s)
-    + length (with_visits visits (procedures_in s q)) - (place + 1) < unvisited visits (procedures_with p s)
-    + length visits - place
-working_fewer s p visits place q working is =
-    let inside : place < length visits = slice_get_within visits place q is in
-    let less = visits_measure (procedures_in s q) visits (procedures_with p s)
-    (λ r h. (let at = place_from s q r 0 q.len h in
-    reached_in_store s p r (further q r at.0 (working.sound q (at_place visits place q is))
-    (omega (arith, at.1)) at.2))) in
-    let longer = visits_longer (procedures_in s q) visits in
-    omega (arith, inside, less, longer)

@@ -1,8 +1,8 @@
 -- `bind` (PostScript Language Reference, third edition, 3.12.1 The bind Operator): executable names whose value is an
 -- operator are replaced by it, in a procedure and in every procedure that is reached through elements. A literal array
 -- is no procedure. Own rule: a procedure is its composite, start and length, and may be reached from itself.
-use Rattle.std.specs.Prelude.{◌≡◌, ℕ, suc, ◌+◌, ◌<◌, ◌==◌, ◌&&◌, ◌||◌, Bool, true, List, [], ◌∷◌, Option, Some, None}
-use Rattle.std.specs.Prelude.{nat_le, nat_lt, option_and_then, if◌then◌else◌}
+use Rattle.std.specs.Prelude.{◌≡◌, ℕ, zero, suc, ◌+◌, ◌<◌, ◌==◌, ◌&&◌, ◌++◌, Bool, true, List, [], ◌∷◌, length, Option}
+use Rattle.std.specs.Prelude.{Some, None, nat_le, nat_lt, option_and_then, if◌then◌else◌}
 use Rattle.std.specs.List.{filter_map, flat_map, list_any, range_with_len}
 use Rattle.ps_store.specs.declared.key.Key.TheVariants.{Named}
 use Rattle.ps_store.specs.declared.obj.Obj.{Obj}
@@ -67,14 +67,15 @@ same_part a b = (a.id == b.id) && ((a.start == b.start) && (a.len == b.len))
 abbrev pub has : List PartValue → PartValue → Bool
 has parts p = list_any (same_part p) parts
 
--- whether one procedure leads to another by way of these alone
-unfoldable pub leads : StoreValue → List PartValue → PartValue → PartValue → Bool
-leads s [] p q = same_part p q || has (procedures_in s p) q
-leads s (r ∷ way) p q = leads s way p q || (leads s way p r && leads s way r q)
+-- with the procedures that are elements of these, so many times
+unfoldable pub reached_in : StoreValue → ℕ → List PartValue → List PartValue
+reached_in s zero procedures = procedures
+reached_in s (suc steps) procedures = reached_in s steps (procedures ++ flat_map (procedures_in s) procedures)
 
--- whether a procedure is reached; a law says that this is Reaches
-unfoldable pub reaches : StoreValue → PartValue → PartValue → Bool
-reaches s p q = leads s (procedures_with p s) p q
+-- the procedures that are reached from one: no more steps lead to a further one than there are procedures. A law says
+-- that these are those of Reaches
+unfoldable pub reached : StoreValue → PartValue → List PartValue
+reached s p = reached_in s (length (procedures_with p s)) (p ∷ [])
 
 -- whether a place of a composite is one of a part
 abbrev pub covers : PartValue → ℕ → ℕ → Bool
@@ -82,7 +83,7 @@ covers q id at = (q.id == id) && (nat_le q.start at && nat_lt at (q.start + q.le
 
 -- whether a place is one of a procedure that is reached
 unfoldable pub is_reached_place : StoreValue → PartValue → ℕ → ℕ → Bool
-is_reached_place s p id at = list_any (λ q. reaches s p q && covers q id at) (procedures_with p s)
+is_reached_place s p id at = list_any (λ q. covers q id at) (reached s p)
 
 -- objects, changed at the places that pass a test
 unfoldable pub changed_items : (ℕ → Bool) → (Obj → Obj) → List Obj → List Obj

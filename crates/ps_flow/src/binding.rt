@@ -2,32 +2,32 @@
 ghost use Rattle.std.specs.Prelude.{◌≡◌, OnOk, option_and_then};
 ghost use Rattle.ps_store.specs.Store.{object_at, operator_of};
 ghost use Rattle.ps_flow.specs.Binding.{bind_store, operator_named};
-ghost use Rattle.ps_flow.specs.BindLaw.{BindsExactly};
+ghost use Rattle.std.specs.Map.{keys_of};
 ghost use Rattle.ps_flow.specs.Code.BindSteps.{replaced, bound_at, bound_from, bound_all};
 
-use crate::visits::{Visits, reached};
+use crate::places::Places;
+use crate::visits::places_reached;
 use press_fault::Mem;
 use ps_store::{Dicts, Obj, Oper, Part, Store};
 use std::alloc::Global;
 
 /// Replaces the executable names whose value is an operator, in a procedure and in all that are reached through
-/// elements, each once.
+/// elements, at each place once, also where they overlap.
 pub(crate) fn bind_procedure(alloc: Global, store: &mut Store, dicts: &Dicts, p: Part) -> Mem<()>
-    ensures value { OnOk result (store.new ≡ bind_store dicts.now store.old p) }
-    ensures law { OnOk result (BindsExactly dicts.now store.old p store.new) }
+    ensures { OnOk result (store.new ≡ bind_store dicts.now store.old p) }
 {
-    let visits = reached(alloc, store, p)?;
-    bind_all(store, dicts, &visits);
+    let places = places_reached(alloc, store, p)?;
+    bind_all(store, dicts, &places);
     Ok(())
 }
 
-fn bind_all(store: &mut Store, dicts: &Dicts, visits: &Visits)
-    ensures { store.new ≡ bound_all dicts.now store.old visits.now }
+fn bind_all(store: &mut Store, dicts: &Dicts, places: &Places)
+    ensures { store.new ≡ bound_all dicts.now store.old (keys_of places.now) }
 {
-    let mut place = 0;
-    while let Some(p) = visits.at(place) {
+    let mut number = 0;
+    while let Some(p) = places.at(number) {
         bind_part(store, dicts, p);
-        place += 1;
+        number += 1;
     }
 }
 

@@ -1,9 +1,10 @@
 //! The procedures that `bind` has reached.
-ghost use Rattle.std.specs.Prelude.{◌≡◌, [], ◌∷◌, ◌++◌, ◌+◌, ◌<◌, ◌^◌, length, OnOk, IfOk, OnSome, slice_get, Some};
-ghost use Rattle.std.specs.Prelude.{None};
-ghost use Rattle.ps_flow.specs.Code.Visits.{with_visit, with_found, with_visits, AreReached};
-ghost use Rattle.ps_flow.specs.Binding.{procedure_of, procedure_at, procedures_in};
+ghost use Rattle.std.specs.Prelude.{◌≡◌, ℕ, [], ◌+◌, ◌<◌, ◌^◌, true, OnOk, IfOk, OnSome, slice_get};
+ghost use Rattle.ps_flow.specs.Code.Visits.{with_visit, with_found};
+ghost use Rattle.ps_flow.specs.Code.Places.{AreAdded, AreFound, AreSeen, IsDone, is_seen, nothing_in_hand, passed};
+ghost use Rattle.ps_flow.specs.Binding.{has, procedure_of, procedure_at};
 
+use crate::places::Places;
 use indexmap::IndexSet;
 use press_fault::Mem;
 use ps_store::{Obj, Part, Store};
@@ -12,10 +13,10 @@ use std::marker::Model;
 
 /// A procedure by its composite, its start and its length, to be found again.
 #[derive(Clone, Copy, Debug, PartialEq, Eq, Hash)]
-struct Visit {
-    id: u32,
-    start: u32,
-    len: u32,
+pub(crate) struct Visit {
+    pub(crate) id: u32,
+    pub(crate) start: u32,
+    pub(crate) len: u32,
 }
 
 impl Model for Visit {
@@ -42,7 +43,7 @@ impl Visit {
         }
     }
 
-    fn span(&self) -> Part
+    pub(crate) fn span(&self) -> Part
         ensures { result ≡ self.now }
     {
         Part {
@@ -106,30 +107,71 @@ impl Visits {
             None => Ok(()),
         }
     }
+}
 
-    /// Adds the procedures that are elements of one.
-    pub(crate) fn add_all(&mut self, store: &Store, p: Part) -> Mem<()>
-        ensures { OnOk result (self.new ≡ with_visits self.old (procedures_in store.now p)) }
-    {
-        for at in 0..p.len {
-            self.add_found(procedure_at(store, p, at))?;
+/// The places of the procedures that are reached from one through elements, with it, each once.
+pub(crate) fn places_reached(alloc: Global, store: &Store, p: Part) -> Mem<Places>
+    ensures { IfOk result (AreFound store.now p) }
+{
+    let mut visits = Visits::new(alloc);
+    let mut places = Places::new(alloc);
+    visits.add(p)?;
+    let mut number = 0;
+    while let Some(q) = visits.at(number) {
+        look_at(&mut visits, &mut places, store, q)?;
+        number += 1;
+    }
+    Ok(places)
+}
+
+/// Looks at the places of a procedure that weren't looked at, and adds the procedures that stand there.
+fn look_at(visits: &mut Visits, places: &mut Places, store: &Store, p: Part) -> Mem<()>
+    requires seen { AreSeen store.now visits.old places.old nothing_in_hand 0 }
+    requires visited { has visits.old p ≡ true }
+    ensures seen { OnOk result (AreSeen store.now visits.new places.new nothing_in_hand 0) }
+    ensures done { OnOk result (IsDone places.new p) }
+    ensures kept { OnOk result ((id k : ℕ) → is_seen places.old id k ≡ true → is_seen places.new id k ≡ true) }
+    ensures added { OnOk result (AreAdded store.now p visits.old visits.new) }
+{
+    let mut at = 0;
+    while at < p.len {
+        at = look_once(visits, places, store, p, at)?;
+    }
+    Ok(())
+}
+
+/// Looks at a place of a procedure, or passes those from it on that were looked at. Answers the place behind.
+fn look_once(visits: &mut Visits, places: &mut Places, store: &Store, p: Part, at: u32) -> Mem<u32>
+    requires within { at < p.len }
+    requires seen { AreSeen store.now visits.old places.old p at }
+    requires visited { has visits.old p ≡ true }
+    ensures further { IfOk result (λ next. at < next) }
+    ensures seen { IfOk result (λ next. AreSeen store.now visits.new places.new p next) }
+    ensures kept { OnOk result ((id k : ℕ) → is_seen places.old id k ≡ true → is_seen places.new id k ≡ true) }
+    ensures added { OnOk result (AreAdded store.now p visits.old visits.new) }
+{
+    match places.behind(p, at) {
+        Some(behind) => {
+            pass(places, p, at, behind)?;
+            Ok(behind - p.start)
         }
-        Ok(())
+        None => {
+            visits.add_found(procedure_at(store, p, at))?;
+            places.mark(p, at)?;
+            Ok(at + 1)
+        }
     }
 }
 
-/// The procedures that are reached from one through elements, with it.
-pub(crate) fn reached(alloc: Global, store: &Store, p: Part) -> Mem<Visits>
-    ensures { IfOk result (λ visits. AreReached store.now p visits) }
+/// Notes that the places up to the end of a part are passed with those from one of its places on.
+fn pass(places: &mut Places, p: Part, at: u32, behind: u32) -> Mem<()>
+    requires { at < p.len }
+    ensures { OnOk result (places.new ≡ passed places.old p at behind) }
 {
-    let mut visits = Visits::new(alloc);
-    visits.add(p)?;
-    let mut place = 0;
-    while let Some(q) = visits.at(place) {
-        visits.add_all(store, q)?;
-        place += 1;
+    if behind < p.start + p.len {
+        places.mark(p, at)?;
     }
-    Ok(visits)
+    Ok(())
 }
 
 /// The procedure at a place of one, if there is one.
