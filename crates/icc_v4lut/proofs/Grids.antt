@@ -37,10 +37,12 @@ few_channels n h = grind arith
 pub count_one : (n : ℕ) (xs : List ℕ) → 20 ≤ length xs → n ≡ slice_index xs 0 → n ≡ point_count (take 1 xs)
 count_one n xs h e = rw (take_one xs (omega (arith, h))) (omega (arith, e))
 
+-- the same of three channels
 pub count_three : (n : ℕ) (xs : List ℕ) → 20 ≤ length xs →
     n ≡ slice_index xs 0 * (slice_index xs 1 * (slice_index xs 2 * 1)) → n ≡ point_count (take 3 xs)
 count_three n xs h e = rw (take_three xs (omega (arith, h))) e
 
+-- the same of four
 pub count_four : (n : ℕ) (xs : List ℕ) → 20 ≤ length xs →
     n ≡ slice_index xs 0 * (slice_index xs 1 * (slice_index xs 2 * (slice_index xs 3 * 1))) →
     n ≡ point_count (take 4 xs)
@@ -51,10 +53,12 @@ pub grid_one : (xs : List ℕ) → 20 ≤ length xs →
     (slice_index xs 0 ∷ 0 ∷ 0 ∷ 0 ∷ []) ≡ take 1 xs ++ 0 ∷ 0 ∷ 0 ∷ []
 grid_one xs h = rw (take_one xs (omega (arith, h))) refl
 
+-- the same of three channels
 pub grid_three : (xs : List ℕ) → 20 ≤ length xs →
     (slice_index xs 0 ∷ slice_index xs 1 ∷ slice_index xs 2 ∷ 0 ∷ []) ≡ take 3 xs ++ 0 ∷ []
 grid_three xs h = rw (take_three xs (omega (arith, h))) refl
 
+-- the same of four
 pub grid_four : (xs : List ℕ) → 20 ≤ length xs →
     (slice_index xs 0 ∷ slice_index xs 1 ∷ slice_index xs 2 ∷ slice_index xs 3 ∷ []) ≡ take 4 xs ++ []
 grid_four xs h = rw (take_four xs (omega (arith, h))) refl
@@ -63,10 +67,12 @@ grid_four xs h = rw (take_four xs (omega (arith, h))) refl
 pub grid_one_taken : (xs : List ℕ) → 20 ≤ length xs → (slice_index xs 0 ∷ []) ≡ take 1 xs
 grid_one_taken xs h = sym (take_one xs (omega (arith, h)))
 
+-- the same of three channels
 pub grid_three_taken : (xs : List ℕ) → 20 ≤ length xs →
     (slice_index xs 0 ∷ slice_index xs 1 ∷ slice_index xs 2 ∷ []) ≡ take 3 xs
 grid_three_taken xs h = sym (take_three xs (omega (arith, h)))
 
+-- the same of four
 pub grid_four_taken : (xs : List ℕ) → 20 ≤ length xs →
     (slice_index xs 0 ∷ slice_index xs 1 ∷ slice_index xs 2 ∷ slice_index xs 3 ∷ []) ≡ take 4 xs
 grid_four_taken xs h = sym (take_four xs (omega (arith, h)))

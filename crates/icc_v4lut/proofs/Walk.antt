@@ -9,7 +9,8 @@ use Rattle.std.proofs.lemmas.Bool.{ltb-false, false≢true, eqb-true, ne_eqb}
 use Rattle.std.proofs.lemmas.Option.{none-some}
 use Rattle.icc_power.proofs.Shapes.{or_first, or_second}
 use Rattle.icc_v4lut.specs.StagesTag.{stages_fault, b_fault, matrix_fault, m_fault, lattice_fault, a_fault, or_later}
-use Rattle.icc_v4lut.specs.StagesTag.{shape_if, has_other_channels, curves_fault, b_at, matrix_at, m_at, lattice_at, a_at}
+use Rattle.icc_v4lut.specs.StagesTag.{shape_if, has_other_channels, curves_fault, b_at, matrix_at, m_at, lattice_at}
+use Rattle.icc_v4lut.specs.StagesTag.{a_at}
 use Rattle.icc_power.specs.CurveTag.{has_other_type, is_misshapen}
 use Rattle.icc_v4lut.specs.StagesTag.{curve_fault, after_curve}
 use Rattle.icc_v4lut.specs.StagesTag.{is_bad_lattice, precision, node_count, grid_of, lattice_from, lattice_stage}
@@ -74,6 +75,7 @@ pub first_known : (tag : List ℕ) (count at : ℕ) → curves_fault tag (suc co
 first_known tag count at h = known_of (drop at tag)
     (now_none (curve_fault (drop at tag)) (curves_fault tag count (after_curve tag at)) h)
 
+-- nor is it misshapen
 pub first_good : (tag : List ℕ) (count at : ℕ) → curves_fault tag (suc count) at ≡ None →
     is_misshapen (drop at tag) ≡ false
 first_good tag count at h = good_of (drop at tag)
@@ -164,6 +166,7 @@ pub one_inside : (at bytes count l : ℕ) → (bytes ≡ 1) ⊎ (bytes ≡ 2) �
 one_inside at bytes count l (inl e) f h = subst (λ (n : ℕ). at + n * count ≤ l) e h
 one_inside at bytes count l (inr e) f h = absurd (f e)
 
+-- values of two bytes stand inside what they were asked in
 pub two_inside : (at bytes count l : ℕ) → bytes ≡ 2 → at + bytes * count ≤ l → at + 2 * count ≤ l
 two_inside at bytes count l e h = subst (λ (n : ℕ). at + n * count ≤ l) e h
 
@@ -177,6 +180,7 @@ nodes_inside inputs tag at count bytes h e f =
 of_stage : (inputs : ℕ) (tag : List ℕ) → IfSome (lattice_stage inputs tag) (λ lattice. lattice.inputs ≡ inputs)
 of_stage inputs tag = by_bool (lattice_at tag == 0) (λ e. rw e tt) (λ e. rw e refl)
 
+-- a lattice that a tag has, of the channels of its transform
 pub lattice_channels : (inputs : ℕ) (tag : List ℕ) (l : Option LatticeValue) → l ≡ lattice_stage inputs tag →
     IfSome l (λ lattice. lattice.inputs ≡ inputs)
 lattice_channels inputs tag l is = rw is (of_stage inputs tag)

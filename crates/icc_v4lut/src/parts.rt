@@ -1,6 +1,6 @@
 //! The parts of stages, read from a tag without a fault.
-ghost use Rattle.std.specs.Prelude.{◌≡◌, ◌≢◌, ◌≤◌, ◌+◌, ◌*◌, ◌-◌, ◌⊎◌, ◌++◌, ◌∷◌, [], length, drop, take, false, None, suc};
-ghost use Rattle.std.specs.Prelude.{replicate, IfOk};
+ghost use Rattle.std.specs.Prelude.{◌≡◌, ◌≢◌, ◌≤◌, ◌+◌, ◌*◌, ◌-◌, ◌⊎◌, ◌++◌, ◌∷◌, [], length, drop, take, false, None};
+ghost use Rattle.std.specs.Prelude.{suc, replicate, IfOk};
 ghost use Rattle.press_nums.specs.Whole.{IsWhole};
 ghost use Rattle.icc_power.specs.CurveTag.{s15_at};
 ghost use Rattle.icc_power.specs.CurveTag.{has_other_type, is_misshapen, curve_of};
