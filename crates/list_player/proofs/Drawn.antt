@@ -16,7 +16,7 @@ use Rattle.geo_clip.specs.Mask.{is_open}
 use Rattle.band_writer.specs.Said.{said_mark}
 use Rattle.list_player.specs.Painting.{over, given_where, IsPainted, ArePainted, AreWide}
 use Rattle.list_player.specs.Playing.{mark_dot, ShowMarks}
-use Rattle.list_player.proofs.Rows.{still_wide}
+use Rattle.list_player.proofs.Bands.{still_wide}
 
 last_found : {D : Type 0} (dot : List ℕ → D) (f : MarkValue → List ℕ) (b : Bool) (mark : MarkValue)
     (o : Option MarkValue) (w : List ℕ) →
@@ -51,25 +51,35 @@ shows_more dot depth tint width first count marks mark rows news shown painted =
       ∙ dot_more dot depth tint marks mark (first + k) col);
 }
 
+row_again : {D : Type 0} (width count k : ℕ) (white_dot : D) (rows : List (List D)) →
+    rows ≡ replicate count (replicate width white_dot) → k < count → get_or rows k [] ≡ replicate width white_dot
+row_again {D} width count k white_dot rows is early = ap (λ (l : List (List D)). get_or l k []) is
+    ∙ get_or-replicate count k (replicate width white_dot) [] early
+
+rows_count : {D : Type 0} (width count : ℕ) (white_dot : D) (rows : List (List D)) →
+    rows ≡ replicate count (replicate width white_dot) → length rows ≡ count
+rows_count {D} width count white_dot rows is = ap (λ (l : List (List D)). length l) is
+    ∙ length-replicate count (replicate width white_dot)
+
+-- a dot without marks is white
+no_marks : {D : Type 0} (dot : List ℕ → D) (depth : Depth) (tint : ℕ → CodeValue → List ℕ) (row col : ℕ) →
+    dot (white depth) ≡ dot (dot_rgb depth tint [] row col)
+unfolding dot_rgb
+no_marks dot depth tint row col = refl
+
 -- white rows show no marks
 pub shows_none : {D : Type 0} (dot : List ℕ → D) (depth : Depth) (tint : ℕ → CodeValue → List ℕ)
-    (width first count : ℕ) (rows : List (List D)) → rows ≡ replicate count (replicate width (dot (white depth))) →
-    ShowMarks dot depth tint width first count [] rows
-unfolding dot_rgb
-shows_none {D} dot depth tint width first count rows is = record {
-  size = ap (λ (l : List (List D)). length l) is ∙ length-replicate count (replicate width (dot (white depth)));
+    (width first count : ℕ) (white_dot : D) (rows : List (List D)) → white_dot ≡ dot (white depth) →
+    rows ≡ replicate count (replicate width white_dot) → ShowMarks dot depth tint width first count [] rows
+shows_none {D} dot depth tint width first count white_dot rows white_is is = record {
+  size = rows_count width count white_dot rows is;
   wide = record {
-    each = λ k less. ap (λ (row : List D). length row) (row k (subst (λ n. k < n)
-        (ap (λ (l : List (List D)). length l) is ∙ length-replicate count (replicate width (dot (white depth)))) less))
-        ∙ length-replicate width (dot (white depth));
+    each = λ k less. ap (λ (row : List D). length row) (row_again width count k white_dot rows is
+        (subst (λ n. k < n) (rows_count width count white_dot rows is) less)) ∙ length-replicate width white_dot;
   };
-  dots = λ k col d early less. ap (λ (r : List D). get_or r col d) (row k early)
-      ∙ get_or-replicate width col (dot (white depth)) d less;
+  dots = λ k col d early less. ap (λ (r : List D). get_or r col d) (row_again width count k white_dot rows is early)
+      ∙ (get_or-replicate width col white_dot d less ∙ (white_is ∙ no_marks dot depth tint (first + k) col));
 }
-  where
-    row : (k : ℕ) → k < count → get_or rows k [] ≡ replicate width (dot (white depth))
-    row k early = ap (λ (l : List (List D)). get_or l k []) is
-        ∙ get_or-replicate count k (replicate width (dot (white depth))) [] early
 
 or_false : (a : Bool) → (a || false) ≡ a
 or_false true = refl

@@ -1,3 +1,3 @@
 mod Painting
-mod Rows
+mod Bands
 mod Drawn

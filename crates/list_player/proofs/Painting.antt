@@ -5,7 +5,8 @@ use Rattle.std.proofs.Common.{arith}
 use Rattle.std.proofs.lemmas.Bool.{cases_lt, cases_eq, nat_tests}
 use Rattle.std.proofs.lemmas.List.{length-append, length-take-le, length-drop, length-replicate, get_or_append_left}
 use Rattle.std.proofs.lemmas.List.{get_or-append_right, get_or-take, get_or-drop, get_or-replicate, length-set}
-use Rattle.std.proofs.lemmas.List.{get_or-set_same, get_or-set_other, take-replicate}
+use Rattle.std.proofs.lemmas.List.{get_or-set_same, get_or-set_other, take-replicate, take_all, take_at}
+use Rattle.std.proofs.lemmas.List.{replicate-append-replicate}
 use Rattle.std.proofs.lemmas.List.Folds.{list_any_more, list_any_at}
 use Rattle.geo_fill.specs.Spans.{SpanValue, is_in, have_column}
 use Rattle.geo_clip.specs.Mask.{IsFirstRun}
@@ -65,53 +66,89 @@ pub painted_both : {D : Type 0} (paint : ℕ → Option D) (g h k : ℕ → Bool
 painted_both paint g h k xs ys zs same one other = painted_twice _ _ _ xs ys zs
     (λ col. ap (given_where (paint col)) (same col) ∙ given_later (paint col) (g col) (h col)) one other
 
+-- a row of one dot that has grown
+pub grown : {D : Type 0} (old new : List D) (dot : D) (count len : ℕ) → len ≡ length old →
+    old ≡ replicate (length old) dot → len < count → new ≡ take count old ++ replicate (count - len) dot →
+    new ≡ replicate (length new) dot
+grown {D} old new dot count len size same less is = whole ∙ sym (ap (λ k. replicate k dot) long)
+  where
+    whole : new ≡ replicate (length old + (count - len)) dot
+    whole = is ∙ (ap (λ (l : List D). l ++ replicate (count - len) dot)
+        (take_all count old (omega (arith, size)) ∙ same)
+        ∙ replicate-append-replicate (length old) (count - len) dot)
+    long : length new ≡ length old + (count - len)
+    long = ap (λ (l : List D). length l) whole ∙ length-replicate (length old + (count - len)) dot
+
+-- a row keeps its length where a run is put over it
+put_size : {D : Type 0} (old dots : List D) (first : ℕ) → first + length dots ≤ length old →
+    length (take first old ++ (dots ++ drop (first + length dots) old)) ≡ length old
+put_size old dots first within =
+    let a = length-append (take first old) (dots ++ drop (first + length dots) old) in
+    let b = length-append dots (drop (first + length dots) old) in
+    let c = length-drop (first + length dots) old in
+    let d = length-take-le first old (omega arith) in
+    omega (arith, a, b, c, d)
+
+-- a list of which a slice was written
+pub listed : {D : Type 0} (len first : ℕ) (items slice ws dots : List D) → slice ≡ items → length items ≡ len →
+    first + length dots ≤ length items → ws ≡ take first slice ++ (dots ++ drop (first + length dots) slice) →
+    take len (ws ++ drop (length ws) items) ≡ take first items ++ (dots ++ drop (first + length dots) items)
+listed {D} len first items slice ws dots same size within is =
+    take_at ws (drop (length ws) items) len (ap (λ (l : List D). length l) put ∙ (put_size items dots first within ∙ size))
+    ∙ put
+  where
+    put : ws ≡ take first items ++ (dots ++ drop (first + length dots) items)
+    put = is ∙ ap (λ (s : List D). take first s ++ (dots ++ drop (first + length dots) s)) same
+
 -- a run of one dot, put over a row
 pub run_put : {D : Type 0} (old new dots : List D) (ink : D) (first end : ℕ) → first ≤ end → end ≤ length old →
     dots ≡ replicate (end - first) ink → new ≡ take first old ++ (dots ++ drop (first + length dots) old) →
     IsPainted (λ col. given_where (Some ink) (is_in first end col)) old new
 run_put {D} old new dots ink first end order within same is = record {
   size = ap (λ (l : List D). length l) is ∙ size;
-  dots = λ col d less. ap (λ (l : List D). get_or l col d) is ∙ elim (cases_lt col first) [
-    | inl early ↦ before col d early
-    | inr late ↦ elim (cases_lt col end) [
-        | inl inside ↦ within_run col d late inside
-        | inr behind ↦ after col d behind
-      ]
-  ];
+  dots = λ col d less. ap (λ (l : List D). get_or l col d) is ∙ put_at col d;
 }
   where
-    rest : List D
-    rest = drop (first + length dots) old
     count : length dots ≡ end - first
     count = ap (λ (l : List D). length l) same ∙ length-replicate (end - first) ink
     front : length (take first old) ≡ first
     front = length-take-le first old (omega arith)
-    size : length (take first old ++ (dots ++ rest)) ≡ length old
+    size : length (take first old ++ (dots ++ drop (first + length dots) old)) ≡ length old
     size =
-        let a = length-append (take first old) (dots ++ rest) in
-        let b = length-append dots rest in
+        let a = length-append (take first old) (dots ++ drop (first + length dots) old) in
+        let b = length-append dots (drop (first + length dots) old) in
         let c = length-drop (first + length dots) old in
         omega (arith, a, b, c, count, front)
     before : (col : ℕ) (d : D) → col < first →
-        get_or (take first old ++ (dots ++ rest)) col d ≡ over (given_where (Some ink) (is_in first end col)) (get_or old col d)
-    before col d early = get_or_append_left (take first old) (dots ++ rest) d col (omega (arith, front))
+        get_or (take first old ++ (dots ++ drop (first + length dots) old)) col d ≡ over (given_where (Some ink) (is_in first end col)) (get_or old col d)
+    before col d early = get_or_append_left (take first old) (dots ++ drop (first + length dots) old) d col (omega (arith, front))
         ∙ (get_or-take first old col d early
         ∙ sym (ap (λ b. over (given_where (Some ink) b) (get_or old col d)) (before_range first end col early)))
     within_run : (col : ℕ) (d : D) → first ≤ col → col < end →
-        get_or (take first old ++ (dots ++ rest)) col d ≡ over (given_where (Some ink) (is_in first end col)) (get_or old col d)
-    within_run col d late inside = get_or-append_right (take first old) (dots ++ rest) first col d front late
-        ∙ (get_or_append_left dots rest d (col - first) (omega (arith, count))
+        get_or (take first old ++ (dots ++ drop (first + length dots) old)) col d ≡ over (given_where (Some ink) (is_in first end col)) (get_or old col d)
+    within_run col d late inside = get_or-append_right (take first old) (dots ++ drop (first + length dots) old) first col d front late
+        ∙ (get_or_append_left dots (drop (first + length dots) old) d (col - first) (omega (arith, count))
         ∙ (ap (λ (l : List D). get_or l (col - first) d) same
         ∙ (get_or-replicate (end - first) (col - first) ink d (omega arith)
         ∙ sym (ap (λ b. over (given_where (Some ink) b) (get_or old col d)) (in_range first end col late inside)))))
     after : (col : ℕ) (d : D) → end ≤ col →
-        get_or (take first old ++ (dots ++ rest)) col d ≡ over (given_where (Some ink) (is_in first end col)) (get_or old col d)
-    after col d behind = get_or-append_right (take first old) (dots ++ rest) first col d front (omega arith)
-        ∙ (get_or-append_right dots rest (end - first) (col - first) d count (omega arith)
+        get_or (take first old ++ (dots ++ drop (first + length dots) old)) col d ≡ over (given_where (Some ink) (is_in first end col)) (get_or old col d)
+    after col d behind = get_or-append_right (take first old) (dots ++ drop (first + length dots) old) first col d front (omega arith)
+        ∙ (get_or-append_right dots (drop (first + length dots) old) (end - first) (col - first) d count (omega arith)
         ∙ (get_or-drop (first + length dots) old ((col - first) - (end - first)) d
         ∙ (ap (λ n. get_or old n d)
         (let e : (first + length dots) + ((col - first) - (end - first)) ≡ col = omega (arith, count) in e)
         ∙ sym (ap (λ b. over (given_where (Some ink) b) (get_or old col d)) (behind_range first end col behind)))))
+    put_at : (col : ℕ) (d : D) →
+        get_or (take first old ++ (dots ++ drop (first + length dots) old)) col d
+        ≡ over (given_where (Some ink) (is_in first end col)) (get_or old col d)
+    put_at col d = elim (cases_lt col first) [
+      | inl early ↦ before col d early
+      | inr late ↦ elim (cases_lt col end) [
+          | inl inside ↦ within_run col d late inside
+          | inr behind ↦ after col d behind
+        ]
+    ]
 
 -- a run of the first of a list of one dot
 pub run_put_from : {D : Type 0} (old new items run : List D) (ink : D) (first end : ℕ) → first ≤ end →
@@ -169,6 +206,14 @@ span_within spans i n span inside is some bound =
     ∙ in_range span.first span.end (span.end - 1) (omega arith) (omega arith))) in
     omega (arith, last)
 
+or_no : (t : Bool) → (t || false) ≡ t
+or_no true = refl
+or_no false = refl
+
+and_no : (t : Bool) → (t && false) ≡ false
+and_no true = refl
+and_no false = refl
+
 -- the next run of open columns of a span
 pub run_more : {D : Type 0} (paint : ℕ → Option D) (open_at : ℕ → Bool) (first from end : ℕ) (run : SpanValue) (xs ys zs : List D) →
     first ≤ from → run.first < run.end → IsFirstRun from end open_at run →
@@ -203,12 +248,6 @@ run_more paint open_at first from end run xs ys zs order some is one other = pai
               ]
           ]
     ]
-    or_no : (t : Bool) → (t || false) ≡ t
-    or_no true = refl
-    or_no false = refl
-    and_no : (t : Bool) → (t && false) ≡ false
-    and_no true = refl
-    and_no false = refl
 
 -- the span is painted where no column is open from a place on
 pub run_last : {D : Type 0} (paint : ℕ → Option D) (open_at : ℕ → Bool) (first from end : ℕ) (xs ys : List D) →
@@ -218,9 +257,6 @@ pub run_last : {D : Type 0} (paint : ℕ → Option D) (open_at : ℕ → Bool) 
 run_last paint open_at first from end xs ys order shut painted = painted_as _ _ xs ys
     (λ col less. ap (given_where (paint col)) (same col)) painted
   where
-    and_no : (t : Bool) → (t && false) ≡ false
-    and_no true = refl
-    and_no false = refl
     same : (col : ℕ) → (is_in first from col && open_at col) ≡ (is_in first end col && open_at col)
     same col = elim (cases_lt col from) [
       | inl early ↦ let a : is_in first from col ≡ is_in first end col = grind (arith, nat_tests) in

@@ -23,7 +23,9 @@ pub(crate) fn white_rows<T: Dot>(alloc: Global, width: u32, count: u32) -> Mem<V
     ensures { (tint : ℕ → CodeValue → List ℕ) (first : ℕ) →
         IfOk result (λ rows. ShowMarks T.dot T.depth tint width first count [] rows.items) }
 {
-    rows_of(alloc, T::white(), width, count)
+    let white = T::white();
+    let rows = rows_of(alloc, white, width, count)?;
+    Ok(rows)
 }
 
 /// Draws a mark of shapes over the marks before it, with an ink's dot.

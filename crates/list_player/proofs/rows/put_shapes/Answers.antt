@@ -2,7 +2,7 @@ use Rattle.std.proofs.Common.{◌∙◌, subst, Some, ◌&&◌, arith}
 use Rattle.page_model.specs.Cover.{shape_holds}
 use Rattle.geo_clip.specs.Mask.{is_open}
 use Rattle.list_player.specs.Painting.{given_where, ArePainted}
-use Rattle.list_player.proofs.Rows.{ink_shape_more, still_wide}
+use Rattle.list_player.proofs.Bands.{ink_shape_more, still_wide}
 use Rattle.list_player.proofs.rows.put_shapes.Goals as goal
 
 pub put_shape-requires-clause-size : goal.put_shape-requires-clause-size

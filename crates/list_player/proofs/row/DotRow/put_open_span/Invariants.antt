@@ -8,12 +8,12 @@ use Rattle.list_player.proofs.row.DotRow.put_open_span.Given as goal
 abbrev pub invariant-loop-run : goal.invariant-loop-run
 invariant-loop-run g l = record {
   painted : IsPainted (λ col. given_where (Some l.initial.ink)
-      (is_in l.span.first l.from col && is_open l.mask.regions l.row col)) l.initial.self l.self;
-  order : l.span.first ≤ l.from;
-  within : l.from ≤ l.span.end;
+      (is_in l.fn.span.first l.from col && is_open l.mask.regions l.row col)) l.initial.self l.self;
+  order : l.fn.span.first ≤ l.from;
+  within : l.from ≤ l.fn.span.end;
   same : l.ink ≡ l.initial.ink;
 }
 
 -- the columns of the span that are left
 abbrev pub decreases-loop-run : goal.decreases-loop-run
-decreases-loop-run g l = l.span.end - l.from
+decreases-loop-run g l = l.fn.span.end - l.from

@@ -118,13 +118,12 @@ within_range spans items width col holds same just has =
     let range = and_parts (nat_le 0 col) (nat_lt col width) both.0 in
     ltb-true col width range.1
 
--- a row of a walk is painted
-pub walk_row : {D : Type 0} (ink : Option D) (shape : Shape) (rule : Rule) (width number : ℕ)
+walk_row_of : {D : Type 0} (ink : Option D) (shape : Shape) (rule : Rule) (width number : ℕ)
     (regions : List RegionValue) (spans items : List SpanValue) (old new : List D) → items ≡ spans →
     HaveJust spans 0 width (λ col. shape_holds rule number col shape) → length old ≡ width →
     IsPainted (λ col. given_where ink (have_column items col && is_open regions number col)) old new →
     IsPainted (λ col. given_where ink (shape_holds rule number col shape && is_open regions number col)) old new
-walk_row ink shape rule width number regions spans items old new same just size painted =
+walk_row_of ink shape rule width number regions spans items old new same just size painted =
     painted_as _ _ old new (λ col less. ap (λ b. given_where ink (b && is_open regions number col))
     (here col (subst (λ m. col < m) size less))) painted
   where
@@ -132,6 +131,19 @@ walk_row ink shape rule width number regions spans items old new same just size 
     here col less = ap (λ (s : List SpanValue). have_column s col) same ∙ (just.columns col
         ∙ ap (λ b. b && shape_holds rule number col shape)
         (and_from (nat_le 0 col) (nat_lt col width) (le-leb 0 col (omega arith)) (lt-ltb col width less)))
+
+-- a row of a walk is painted with an ink that has stayed
+pub walk_row : {D : Type 0} (ink now : D) (shape : Shape) (rule : Rule) (width number : ℕ)
+    (regions : List RegionValue) (spans items : List SpanValue) (row old new : List D) → items ≡ spans →
+    HaveJust spans 0 width (λ col. shape_holds rule number col shape) → length row ≡ width → old ≡ row → now ≡ ink →
+    IsPainted (λ col. given_where (Some now) (have_column items col && is_open regions number col)) old new →
+    IsPainted (λ col. given_where (Some ink) (shape_holds rule number col shape && is_open regions number col)) row new
+walk_row {D} ink now shape rule width number regions spans items row old new same just size was stays painted =
+    walk_row_of (Some ink) shape rule width number regions spans items row new same just size
+    (subst (λ (d : D). IsPainted (λ col. given_where (Some d) (have_column items col && is_open regions number col))
+    row new) stays
+    (subst (λ (r : List D). IsPainted (λ col. given_where (Some now)
+    (have_column items col && is_open regions number col)) r new) was painted))
 
 -- a walk with so many rows left has one, and then so many
 pub with_one : (shape : Shape) (rule : Rule) (row rows i : ℕ) (walk : EdgeWalkValue) → i < rows →
