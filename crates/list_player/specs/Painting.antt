@@ -1,10 +1,11 @@
 -- Dots painted over (PostScript Language Reference, third edition, 4.1 Imaging Model: paint is opaque, and what is
 -- painted later hides what it covers). Own rule: a paint gives a dot for some places and none for the others.
 use Rattle.std.specs.Prelude.{◌≡◌, ℕ, ◌+◌, ◌<◌, ◌≤◌, Bool, List, [], length, slice_index_or, Option, Some, None}
-use Rattle.std.specs.Prelude.{if◌then◌else◌, false, option_map}
+use Rattle.std.specs.Prelude.{if◌then◌else◌, false, option_map, ◌^◌}
 use Rattle.std.specs.Option.{option_map_or}
 use Rattle.press_fault.specs.Plane.{CodeValue}
 use Rattle.page_model.specs.Image.{ImageValue}
+use Rattle.geo_clip.specs.Mask.{BandMaskValue}
 use Rattle.page_model.specs.Sample.{code_at, mask_paints}
 
 -- the dot that is left where a paint gives one, or none, over a dot
@@ -38,6 +39,12 @@ pub record ArePainted {D : Type 0} (first count : ℕ) (paint : ℕ → ℕ → 
 -- each row has so many dots
 pub record AreWide {D : Type 0} (width : ℕ) (rows : List (List D)) : Type 0 where
   pub each : (k : ℕ) → k < length rows → length (slice_index_or rows k []) ≡ width
+
+-- the rows of a band of so many columns and rows
+pub record IsBand {D : Type 0} (clip : BandMaskValue) (rows : List (List D)) : Type 0 where
+  pub size : length rows ≡ clip.rows
+  pub wide : AreWide clip.width rows
+  pub numbered : clip.first + clip.rows ≤ 2 ^ 32
 
 -- what the sample of a dot paints it with, if it has one: the dot that its code is given
 abbrev pub sample_dot : {D : Type 0} → (CodeValue → D) → ImageValue → Option ℕ → Option D

@@ -7,7 +7,7 @@ use Rattle.std.specs.List.{AllByRecursion, slice_get}
 use Rattle.press_fault.specs.Plane.{CodeValue}
 use Rattle.page_model.specs.Image.{ImageValue}
 use Rattle.page_model.specs.Marking.{MarkValue}
-use Rattle.page_model.specs.Cover.{dot_rgb, covers_dot, mark_rgb}
+use Rattle.page_model.specs.Cover.{dot_rgb, covers_dot, mark_rgb, ink_rgb, sample_ink}
 use Rattle.page_model.specs.Page.{ink_source}
 use Rattle.page_model.specs.Pages.{band_text, rows_of_band}
 use Rattle.page_model.specs.declared.mark.Ink.{Ink}
@@ -28,6 +28,19 @@ tint_at Sixteen colour wide = wide
 abbrev pub lent_at : Depth → (CodeValue → List ℕ) → (CodeValue → List ℕ) → CodeValue → List ℕ
 lent_at Eight colour wide = colour
 lent_at Sixteen colour wide = wide
+
+-- the colours of linked codes where all go by one loan
+abbrev pub loan_tint : Depth → (CodeValue → List ℕ) → (CodeValue → List ℕ) → ℕ → CodeValue → List ℕ
+loan_tint depth colour wide source code = lent_at depth colour wide code
+
+-- the dot of a linked code by a loan
+abbrev pub lent_dot : {D : Type 0} → (List ℕ → D) → Depth → (CodeValue → List ℕ) → (CodeValue → List ℕ) → CodeValue → D
+lent_dot dot depth colour wide code = dot (lent_at depth colour wide code)
+
+-- the dot of a sample's code, by the source of its image if that has one
+abbrev pub code_dot : {D : Type 0} → (List ℕ → D) → Depth → (CodeValue → List ℕ) → (CodeValue → List ℕ) → Option ℕ
+    → CodeValue → D
+code_dot dot depth colour wide source code = dot (ink_rgb depth (loan_tint depth colour wide) (sample_ink source code))
 
 -- the dots of a band: its number, how many rows it has, and the bytes of its dots
 pub record BandDotsValue : Type 0 where

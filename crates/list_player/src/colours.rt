@@ -97,3 +97,28 @@ pub trait Colours {
         ensures wide { wide self.new ≡ wide self.old }
         ensures sources { sources self.new ≡ sources self.old };
 }
+
+/// The loan before the first that is needed. No code of a list goes by it.
+pub(crate) struct Unlinked;
+
+impl Lent for Unlinked {
+    ghost use Rattle.std.specs.Prelude.{[], ◌∷◌};
+
+    ghost channels = { λ loan. 1 };
+
+    ghost colour = { λ loan code. 0 ∷ 0 ∷ 0 ∷ [] };
+
+    ghost wide = { λ loan code. 0 ∷ 0 ∷ 0 ∷ [] };
+
+    fn channels(&self) -> u8 {
+        1
+    }
+
+    fn convert(&self, _code: Code) -> [u8; 3] {
+        [0, 0, 0]
+    }
+
+    fn convert_wide(&self, _code: Code) -> [u16; 3] {
+        [0, 0, 0]
+    }
+}

@@ -26,6 +26,9 @@ pub(crate) trait Dot: Copy {
     /// The bytes of a colour's dot.
     ghost bytes_of_dot: { (colour : List ℕ) → bytes (dot colour) ≡ dot_bytes depth colour };
 
+    /// How many bytes it has.
+    fn size() -> usize;
+
     /// The white dot.
     fn white() -> Self
         ensures { result ≡ dot (white depth) };
@@ -54,6 +57,10 @@ impl Dot for [u8; 3] {
     ghost use Rattle.std.specs.Prelude.{refl};
 
     ghost bytes_of_dot = { λ colour. refl };
+
+    fn size() -> usize {
+        3
+    }
 
     fn white() -> [u8; 3] {
         [255, 255, 255]
@@ -110,6 +117,10 @@ impl Dot for [u8; 6] {
     ghost use Rattle.std.specs.Prelude.{refl};
 
     ghost bytes_of_dot = { λ colour. refl };
+
+    fn size() -> usize {
+        6
+    }
 
     fn white() -> [u8; 6] {
         [255, 255, 255, 255, 255, 255]

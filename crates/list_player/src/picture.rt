@@ -1,131 +1,135 @@
 //! The samples of images and masks, put over the dots of a row.
-ghost use Rattle.std.specs.Prelude.{◌≡◌, ◌+◌, ◌*◌, ◌<◌, ◌≤◌, ℕ, length, slice_index_or, OnOk, Some, false};
-ghost use Rattle.std.specs.Option.{option_map_or};
-ghost use Rattle.press_fault.specs.Plane.{CodeValue};
-ghost use Rattle.page_model.specs.Sample.{code_at as code_of, mask_paints as paints};
+ghost use Rattle.std.specs.Prelude.{◌≡◌, ◌+◌, ◌*◌, ◌<◌, ◌≤◌, ◌&&◌, ℕ, length, slice_index_or, OnOk, Some};
+ghost use Rattle.page_model.specs.Cover.{ImageHasChannels, InkHasChannels, ink_rgb, sample_ink};
+ghost use Rattle.page_model.specs.Sample.{mask_paints as paints};
 ghost use Rattle.geo_fill.specs.Spans.{is_in};
+ghost use Rattle.geo_clip.specs.Mask.{IsRowOfBand, is_open};
 ghost use Rattle.img_map.specs.declared.row.Pick.TheVariants.{Outside as NoSample, At as Number};
 ghost use Rattle.img_map.specs.Picks.{picked};
 ghost use Rattle.list_player.specs.Painting.{given_where, sample_dot, mask_dot, IsPainted};
+ghost use Rattle.list_player.specs.Playing.{lent_dot, code_dot, loan_tint};
+ghost use Rattle.list_player.specs.Memo.{Remembers};
 
+use crate::Lent;
+use crate::dot::Dot;
+use crate::memo::{Memo, lent_dot};
 use img_map::Pick;
-use crate::row::DotRow;
-use geo_clip::BandMask;
-use page_model::{Image, code_at, mask_paints};
+use page_model::{Image, Ink, code_at};
 use press_fault::Code;
 
-/// What gives the codes of an image their dots.
-pub(crate) trait CodeDots<T> {
-    /// The codes that it gives one.
-    ghost knows: { Self → CodeValue → Type 0 };
-
-    /// The dot of a code.
-    ghost dot_of: { Self → CodeValue → T };
-
-    /// The dot of a code.
-    fn dot(&self, code: Code) -> T
-        requires { knows self.now code }
-        ensures { result ≡ dot_of self.now code };
-}
-
-/// The code that was asked last, and its dot: a run of equal samples asks once.
-#[derive(Clone, Copy)]
-pub(crate) struct Told<T: Copy> {
-    pub code: Code,
-    pub dot: T,
-}
-
-/// The dot of a code, which is asked only where the code is another than the last.
-pub(crate) fn dot_of<T: Copy, C: CodeDots<T>>(dots: &C, code: Code, told: &mut Told<T>) -> T
-    requires knows { C.knows dots.now code }
-    requires told { told.old.dot ≡ C.dot_of dots.now told.old.code }
-    ensures value { result ≡ C.dot_of dots.now code }
-    ensures told { told.new.dot ≡ C.dot_of dots.now told.new.code }
+/// The dot of an ink.
+pub(crate) fn ink_dot<T: Dot, L: Lent>(memo: &mut Memo<T>, ink: Ink, loan: &L) -> T
+    requires channels { InkHasChannels (λ source. L.channels loan.now) ink }
+    requires memo { Remembers (lent_dot T.dot T.depth (L.colour loan.now) (L.wide loan.now)) memo.old.told.items }
+    ensures value { result ≡ T.dot (ink_rgb T.depth (loan_tint T.depth (L.colour loan.now) (L.wide loan.now)) ink) }
+    ensures memo { Remembers (lent_dot T.dot T.depth (L.colour loan.now) (L.wide loan.now)) memo.new.told.items }
 {
-    if told.code != code {
-        told.dot = dots.dot(code);
-        told.code = code;
+    match ink {
+        Ink::Plain(code) => T::plain(code),
+        Ink::Linked { source: _, code } => lent_dot(memo, code, loan),
     }
-    told.dot
+}
+
+/// The dot of a sample's code, by the source of its image if that has one.
+fn code_dot<T: Dot, L: Lent>(memo: &mut Memo<T>, source: Option<u32>, code: Code, loan: &L) -> T
+    requires channels { ImageHasChannels (λ source. L.channels loan.now) code.n source }
+    requires memo { Remembers (lent_dot T.dot T.depth (L.colour loan.now) (L.wide loan.now)) memo.old.told.items }
+    ensures value { result ≡ code_dot T.dot T.depth (L.colour loan.now) (L.wide loan.now) source code }
+    ensures memo { Remembers (lent_dot T.dot T.depth (L.colour loan.now) (L.wide loan.now)) memo.new.told.items }
+{
+    match source {
+        None => T::plain(code),
+        Some(_) => lent_dot(memo, code, loan),
+    }
 }
 
 /// Puts the dot of a sample into a column of a row.
-fn put_sample<T: Copy, C: CodeDots<T>>(
+fn put_sample<T: Dot, L: Lent>(
     row: &mut Vec<T>,
     col: usize,
     pick: Pick,
     image: &Image,
-    dots: &C,
-    told: &mut Told<T>,
+    memo: &mut Memo<T>,
+    loan: &L,
 )
     requires within { col < length row.old.items }
     requires inside { (n : ℕ) → pick ≡ Number n → n < image.now.width * image.now.rows }
-    requires knows { (n : ℕ) → n < image.now.width * image.now.rows → C.knows dots.now (code_of image.now n) }
-    requires told { told.old.dot ≡ C.dot_of dots.now told.old.code }
-    ensures put { IsPainted (λ k. given_where (sample_dot (C.dot_of dots.now) image.now (picked pick))
+    requires channels { ImageHasChannels (λ source. L.channels loan.now) image.now.channels image.now.source }
+    requires memo { Remembers (lent_dot T.dot T.depth (L.colour loan.now) (L.wide loan.now)) memo.old.told.items }
+    ensures put { IsPainted (λ k. given_where
+        (sample_dot (code_dot T.dot T.depth (L.colour loan.now) (L.wide loan.now) image.now.source) image.now (picked pick))
         (is_in col (col + 1) k)) row.old.items row.new.items }
-    ensures told { told.new.dot ≡ C.dot_of dots.now told.new.code }
+    ensures memo { Remembers (lent_dot T.dot T.depth (L.colour loan.now) (L.wide loan.now)) memo.new.told.items }
 {
     if let Pick::At(number) = pick {
-        row[col] = dot_of(dots, code_at(image, number), told);
+        let dot = code_dot(memo, image.source, code_at(image, number), loan);
+        row[col] = dot;
     }
 }
 
 /// Puts the dots of samples over those of a row, in the columns from `from` up to and without `to`.
-pub(crate) fn put_samples<T: Copy, C: CodeDots<T>>(
+pub(crate) fn put_samples<T: Dot, L: Lent>(
     row: &mut Vec<T>,
-    picks: &[Pick],
+    picks: &Vec<Pick>,
     from: usize,
     to: usize,
     image: &Image,
-    dots: &C,
-    told: &mut Told<T>,
+    memo: &mut Memo<T>,
+    loan: &L,
 )
     requires order { from ≤ to }
     requires within { to ≤ length row.old.items }
-    requires picks { to ≤ length picks.now }
-    requires inside { (k n : ℕ) → k < length picks.now → slice_index_or picks.now k NoSample ≡ Number n →
+    requires picks { to ≤ length picks.now.items }
+    requires inside { (k n : ℕ) → k < length picks.now.items → slice_index_or picks.now.items k NoSample ≡ Number n →
         n < image.now.width * image.now.rows }
-    requires knows { (n : ℕ) → n < image.now.width * image.now.rows → C.knows dots.now (code_of image.now n) }
-    requires told { told.old.dot ≡ C.dot_of dots.now told.old.code }
+    requires channels { ImageHasChannels (λ source. L.channels loan.now) image.now.channels image.now.source }
+    requires memo { Remembers (lent_dot T.dot T.depth (L.colour loan.now) (L.wide loan.now)) memo.old.told.items }
     ensures put { IsPainted (λ col. given_where
-        (sample_dot (C.dot_of dots.now) image.now (picked (slice_index_or picks.now col NoSample)))
+        (sample_dot (code_dot T.dot T.depth (L.colour loan.now) (L.wide loan.now) image.now.source) image.now
+        (picked (slice_index_or picks.now.items col NoSample)))
         (is_in from to col)) row.old.items row.new.items }
-    ensures told { told.new.dot ≡ C.dot_of dots.now told.new.code }
+    ensures memo { Remembers (lent_dot T.dot T.depth (L.colour loan.now) (L.wide loan.now)) memo.new.told.items }
 {
     for col in from..to {
-        put_sample(row, col, picks[col], image, dots, told);
+        put_sample(row, col, picks[col], image, memo, loan);
     }
 }
 
-/// Puts the dots of samples over those of a row that a mask leaves open. The row has this number on the page.
-pub(crate) fn put_open_samples<T: Copy, C: CodeDots<T>>(
-    row: &mut DotRow<T>,
-    picks: &[Pick],
-    mask: &BandMask,
-    number: u32,
-    width: u32,
-    image: &Image,
-    dots: &C,
-    told: &mut Told<T>,
-)
-    requires row { IsRowOfBand mask.now number }
-    requires range { width ≤ mask.now.width }
-    requires within { width ≤ length row.old }
-    requires picks { width ≤ length picks.now }
-    requires inside { (k n : ℕ) → k < length picks.now → slice_index_or picks.now k NoSample ≡ Number n →
-        n < image.now.width * image.now.rows }
-    requires knows { (n : ℕ) → n < image.now.width * image.now.rows → C.knows dots.now (code_of image.now n) }
-    requires told { told.old.dot ≡ C.dot_of dots.now told.old.code }
-    ensures put { IsPainted (λ col. given_where
-        (sample_dot (C.dot_of dots.now) image.now (picked (slice_index_or picks.now col NoSample)))
-        (is_in 0 width col && is_open mask.now.regions number col)) row.old row.new }
-    ensures told { told.new.dot ≡ C.dot_of dots.now told.new.code }
+/// Whether a mask paints at the sample of a number, counted row by row from 0.
+#[tactic(auto, unfolding(page_model::specs::Sample::mask_paints))]
+fn does_paint(image: &Image, sample: u32) -> bool
+    requires { sample < image.now.width * image.now.rows }
+    ensures { result ≡ paints image.now sample }
 {
-    let mut from = 0;
-    while let Some(run) = mask.open_run(number, from, width) {
-        let (first, end) = (run.first as usize, run.end as usize);
-        put_samples(row.list(), picks, first, end, image, dots, told);
-        from = run.end;
+    image.codes.items()[sample as usize] == 255
+}
+
+/// Puts an ink into a column of a row, where a mask paints it.
+fn put_masked<T: Copy>(row: &mut Vec<T>, col: usize, pick: Pick, image: &Image, dot: T)
+    requires within { col < length row.old.items }
+    requires inside { (n : ℕ) → pick ≡ Number n → n < image.now.width * image.now.rows }
+    ensures { IsPainted (λ k. given_where (mask_dot dot image.now (picked pick)) (is_in col (col + 1) k))
+        row.old.items row.new.items }
+{
+    if let Pick::At(number) = pick {
+        if does_paint(image, number) {
+            row[col] = dot;
+        }
+    }
+}
+
+/// Puts an ink over the dots of a row that a mask paints, in the columns from `from` up to and without `to`.
+pub(crate) fn put_mask<T: Copy>(row: &mut Vec<T>, picks: &Vec<Pick>, from: usize, to: usize, image: &Image, dot: T)
+    requires order { from ≤ to }
+    requires within { to ≤ length row.old.items }
+    requires picks { to ≤ length picks.now.items }
+    requires inside { (k n : ℕ) → k < length picks.now.items → slice_index_or picks.now.items k NoSample ≡ Number n →
+        n < image.now.width * image.now.rows }
+    ensures { IsPainted (λ col. given_where
+        (mask_dot dot image.now (picked (slice_index_or picks.now.items col NoSample)))
+        (is_in from to col)) row.old.items row.new.items }
+{
+    for col in from..to {
+        put_masked(row, col, picks[col], image, dot);
     }
 }

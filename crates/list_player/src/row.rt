@@ -3,10 +3,22 @@ ghost use Rattle.std.specs.Prelude.{◌≡◌, ◌+◌, ◌-◌, ◌≤◌, ◌<
 ghost use Rattle.std.specs.Prelude.{MatchOption, IfOk};
 ghost use Rattle.geo_fill.specs.Spans.{is_in, have_column};
 ghost use Rattle.geo_clip.specs.Mask.{IsRowOfBand, is_open};
-ghost use Rattle.list_player.specs.Painting.{given_where, IsPainted};
+ghost use Rattle.std.specs.Prelude.{◌*◌, slice_index_or};
+ghost use Rattle.page_model.specs.Cover.{ImageHasChannels};
+ghost use Rattle.img_map.specs.declared.row.Pick.TheVariants.{Outside as NoSample, At as Number};
+ghost use Rattle.img_map.specs.Picks.{picked};
+ghost use Rattle.list_player.specs.Painting.{given_where, sample_dot, mask_dot, IsPainted};
+ghost use Rattle.list_player.specs.Playing.{lent_dot, code_dot};
+ghost use Rattle.list_player.specs.Memo.{Remembers};
 
+use crate::Lent;
+use crate::dot::Dot;
+use crate::memo::Memo;
+use crate::picture::{put_mask, put_samples};
 use geo_clip::BandMask;
 use geo_fill::Span;
+use img_map::Pick;
+use page_model::Image;
 use press_fault::Mem;
 use std::alloc::Global;
 use std::marker::Model;
@@ -202,5 +214,110 @@ impl<T: Copy> DotRow<T> {
             self.put_open_span(*span, mask, row, ink)?;
         }
         Ok(())
+    }
+}
+
+impl<T: Dot> DotRow<T> {
+    /// Puts the dots of samples over those of the columns from `from` up to and without `to`.
+    pub(crate) fn put_samples<L: Lent>(
+        &mut self,
+        picks: &Vec<Pick>,
+        from: u32,
+        to: u32,
+        image: &Image,
+        memo: &mut Memo<T>,
+        loan: &L,
+    )
+        requires order { from ≤ to }
+        requires within { to ≤ length self.old }
+        requires picks { to ≤ length picks.now.items }
+        requires inside { (k n : ℕ) → k < length picks.now.items → slice_index_or picks.now.items k NoSample ≡ Number n →
+            n < image.now.width * image.now.rows }
+        requires channels { ImageHasChannels (λ source. L.channels loan.now) image.now.channels image.now.source }
+        requires memo { Remembers (lent_dot T.dot T.depth (L.colour loan.now) (L.wide loan.now)) memo.old.told.items }
+        ensures put { IsPainted (λ col. given_where
+            (sample_dot (code_dot T.dot T.depth (L.colour loan.now) (L.wide loan.now) image.now.source) image.now
+            (picked (slice_index_or picks.now.items col NoSample)))
+            (is_in from to col)) self.old self.new }
+        ensures memo { Remembers (lent_dot T.dot T.depth (L.colour loan.now) (L.wide loan.now)) memo.new.told.items }
+    {
+        put_samples(&mut self.dots, picks, from as usize, to as usize, image, memo, loan);
+    }
+
+    /// Puts the dots of samples over those that a mask leaves open, in the columns before `width`. The row has this
+    /// number on the page.
+    pub(crate) fn put_open_samples<L: Lent>(
+        &mut self,
+        picks: &Vec<Pick>,
+        mask: &BandMask,
+        row: u32,
+        width: u32,
+        image: &Image,
+        memo: &mut Memo<T>,
+        loan: &L,
+    )
+        requires row { IsRowOfBand mask.now row }
+        requires range { width ≤ mask.now.width }
+        requires within { width ≤ length self.old }
+        requires picks { width ≤ length picks.now.items }
+        requires inside { (k n : ℕ) → k < length picks.now.items → slice_index_or picks.now.items k NoSample ≡ Number n →
+            n < image.now.width * image.now.rows }
+        requires channels { ImageHasChannels (λ source. L.channels loan.now) image.now.channels image.now.source }
+        requires memo { Remembers (lent_dot T.dot T.depth (L.colour loan.now) (L.wide loan.now)) memo.old.told.items }
+        ensures put { IsPainted (λ col. given_where
+            (sample_dot (code_dot T.dot T.depth (L.colour loan.now) (L.wide loan.now) image.now.source) image.now
+            (picked (slice_index_or picks.now.items col NoSample)))
+            (is_in 0 width col && is_open mask.now.regions row col)) self.old self.new }
+        ensures memo { Remembers (lent_dot T.dot T.depth (L.colour loan.now) (L.wide loan.now)) memo.new.told.items }
+    {
+        let mut from = 0;
+        while let Some(run) = mask.open_run(row, from, width) {
+            self.put_samples(picks, run.first, run.end, image, memo, loan);
+            from = run.end;
+        }
+    }
+}
+
+impl<T: Copy> DotRow<T> {
+    /// Puts an ink over the dots that a mask's samples paint, in the columns from `from` up to and without `to`.
+    pub(crate) fn put_mask(&mut self, picks: &Vec<Pick>, from: u32, to: u32, image: &Image, dot: T)
+        requires order { from ≤ to }
+        requires within { to ≤ length self.old }
+        requires picks { to ≤ length picks.now.items }
+        requires inside { (k n : ℕ) → k < length picks.now.items → slice_index_or picks.now.items k NoSample ≡ Number n →
+            n < image.now.width * image.now.rows }
+        ensures { IsPainted (λ col. given_where
+            (mask_dot dot image.now (picked (slice_index_or picks.now.items col NoSample)))
+            (is_in from to col)) self.old self.new }
+    {
+        put_mask(&mut self.dots, picks, from as usize, to as usize, image, dot);
+    }
+
+    /// Puts an ink over the dots that a mask's samples paint and another mask leaves open, in the columns before
+    /// `width`. The row has this number on the page.
+    pub(crate) fn put_open_mask(
+        &mut self,
+        picks: &Vec<Pick>,
+        mask: &BandMask,
+        row: u32,
+        width: u32,
+        image: &Image,
+        dot: T,
+    )
+        requires row { IsRowOfBand mask.now row }
+        requires range { width ≤ mask.now.width }
+        requires within { width ≤ length self.old }
+        requires picks { width ≤ length picks.now.items }
+        requires inside { (k n : ℕ) → k < length picks.now.items → slice_index_or picks.now.items k NoSample ≡ Number n →
+            n < image.now.width * image.now.rows }
+        ensures { IsPainted (λ col. given_where
+            (mask_dot dot image.now (picked (slice_index_or picks.now.items col NoSample)))
+            (is_in 0 width col && is_open mask.now.regions row col)) self.old self.new }
+    {
+        let mut from = 0;
+        while let Some(run) = mask.open_run(row, from, width) {
+            self.put_mask(picks, run.first, run.end, image, dot);
+            from = run.end;
+        }
     }
 }

@@ -4,7 +4,7 @@ ghost use Rattle.std.specs.List.{list_any};
 ghost use Rattle.page_model.specs.Cover.{shape_holds};
 ghost use Rattle.geo_fill.specs.Walk.{Walks};
 ghost use Rattle.geo_clip.specs.Mask.{is_open};
-ghost use Rattle.list_player.specs.Painting.{given_where, ArePainted, AreWide};
+ghost use Rattle.list_player.specs.Painting.{given_where, ArePainted, IsBand};
 
 use crate::clip::BandClip;
 use crate::row::{DotRow, InkRow};
@@ -41,58 +41,42 @@ pub(crate) fn rows_of<T: Copy>(alloc: Global, dot: T, width: u32, count: u32) ->
     Ok(rows)
 }
 
-/// Paints shapes in the band of a clip, where the clip leaves dots open: `count` rows from the page's row `first` on.
+/// Paints shapes over the rows of a band, where its clip leaves dots open.
 pub(crate) fn put_shapes<T: Copy>(
     rows: &mut Vec<DotRow<T>>,
     room: &mut PaintRoom,
     shapes: &[Shape],
     rule: Rule,
     clip: &BandClip,
-    width: u32,
-    first: u32,
-    count: u32,
     ink: &mut InkRow<T>,
 ) -> Mem<()>
-    requires size { length rows.old.items ≡ count }
-    requires wide { AreWide width rows.old.items }
-    requires numbered { first + count ≤ 2 ^ 32 }
-    requires width { clip.now.width ≡ width }
-    requires first { clip.now.first ≡ first }
-    requires count { clip.now.rows ≡ count }
-    ensures ok { OnOk result (ArePainted first count (λ row col. given_where (Some ink.old)
+    requires { IsBand clip.now rows.old.items }
+    ensures ok { OnOk result (ArePainted clip.now.first clip.now.rows (λ row col. given_where (Some ink.old)
         (list_any (shape_holds rule row col) shapes.now && is_open clip.now.regions row col))
         rows.old.items rows.new.items) }
     ensures same { ink.new ≡ ink.old }
 {
     for shape in shapes {
-        put_shape(rows, room, shape, rule, clip, width, first, count, ink)?;
+        put_shape(rows, room, shape, rule, clip, ink)?;
     }
     Ok(())
 }
 
-/// Paints one shape in the band of a clip.
+/// Paints one shape over the rows of a band.
 fn put_shape<T: Copy>(
     rows: &mut Vec<DotRow<T>>,
     room: &mut PaintRoom,
     shape: &Shape,
     rule: Rule,
     clip: &BandClip,
-    width: u32,
-    first: u32,
-    count: u32,
     ink: &mut InkRow<T>,
 ) -> Mem<()>
-    requires size { length rows.old.items ≡ count }
-    requires wide { AreWide width rows.old.items }
-    requires numbered { first + count ≤ 2 ^ 32 }
-    requires width { clip.now.width ≡ width }
-    requires first { clip.now.first ≡ first }
-    requires count { clip.now.rows ≡ count }
-    ensures ok { OnOk result (ArePainted first count (λ row col. given_where (Some ink.old)
+    requires { IsBand clip.now rows.old.items }
+    ensures ok { OnOk result (ArePainted clip.now.first clip.now.rows (λ row col. given_where (Some ink.old)
         (shape_holds rule row col shape.now && is_open clip.now.regions row col)) rows.old.items rows.new.items) }
     ensures same { ink.new ≡ ink.old }
 {
-    room.walk.restart(shape, rule, first, count)?;
+    room.walk.restart(shape, rule, clip.first(), clip.rows())?;
     put_walk(
         rows,
         &mut room.walk,
@@ -100,9 +84,9 @@ fn put_shape<T: Copy>(
         shape,
         rule,
         clip,
-        width,
-        first,
-        count,
+        clip.width(),
+        clip.first(),
+        clip.rows(),
         ink,
     )
 }
@@ -120,9 +104,7 @@ fn put_walk<T: Copy>(
     count: u32,
     ink: &mut InkRow<T>,
 ) -> Mem<()>
-    requires size { length rows.old.items ≡ count }
-    requires wide { AreWide width rows.old.items }
-    requires numbered { first + count ≤ 2 ^ 32 }
+    requires band { IsBand clip.now rows.old.items }
     requires width { clip.now.width ≡ width }
     requires first { clip.now.first ≡ first }
     requires count { clip.now.rows ≡ count }

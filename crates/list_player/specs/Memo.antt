@@ -1,0 +1,13 @@
+-- Dots of codes that are remembered. Own rule: what is remembered is what a conversion would give again.
+use Rattle.std.specs.Prelude.{◌≡◌, ℕ, List, length, slice_index_or, Option, None, IfSome}
+use Rattle.press_fault.specs.Plane.{CodeValue}
+
+-- a code and its dot
+pub record ToldValue (D : Type 0) : Type 0 where
+  pub code : CodeValue
+  pub dot : D
+
+-- at each of 256 places nothing, or a code with the dot that it is given
+pub record Remembers {D : Type 0} (dot_of : CodeValue → D) (told : List (Option (ToldValue D))) : Type 0 where
+  pub size : length told ≡ 256
+  pub each : (k : ℕ) → IfSome (slice_index_or told k None) (λ (t : ToldValue D). t.dot ≡ dot_of t.code)
