@@ -1,5 +1,5 @@
 //! The dots of codes that were converted lately.
-ghost use Rattle.std.specs.Prelude.{◌≡◌, ◌<◌, length, IfSome};
+ghost use Rattle.std.specs.Prelude.{◌≡◌, ◌<◌, length, IfSome, OnOk};
 ghost use Rattle.press_fault.specs.Plane.{CodeValue};
 ghost use Rattle.list_player.specs.Playing.{lent_dot};
 ghost use Rattle.list_player.specs.Memo.{Remembers};
