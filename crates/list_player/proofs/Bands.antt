@@ -13,7 +13,8 @@ use Rattle.page_model.specs.Cover.{shape_holds}
 use Rattle.geo_fill.specs.Spans.{SpanValue, is_in, have_column, HaveJust}
 use Rattle.geo_fill.specs.Walk.{EdgeWalkValue, Walks}
 use Rattle.geo_clip.specs.Mask.{is_open}
-use Rattle.list_player.specs.Painting.{later, given_where, IsPainted, ArePainted, AreWide}
+use Rattle.geo_clip.specs.Mask.{BandMaskValue}
+use Rattle.list_player.specs.Painting.{later, given_where, IsPainted, ArePainted, AreWide, IsBand}
 use Rattle.list_player.proofs.Painting.{painted_twice, painted_as, given_later, and_or}
 
 at_row : {D : Type 0} (rows : List (List D)) (i k : ℕ) (new : List D) → i < length rows → k ≡ i →
@@ -184,3 +185,12 @@ unclipped {D} ink regions number spans xs ys none painted =
     and_true : (t : Bool) → (t && true) ≡ t
     and_true true = refl
     and_true false = refl
+
+-- painted rows are those of the band
+pub still_band : {D : Type 0} (clip : BandMaskValue) (first n : ℕ) (p : ℕ → ℕ → Option D) (xs ys : List (List D)) →
+    IsBand clip xs → ArePainted first n p xs ys → IsBand clip ys
+still_band clip first n p xs ys band painted = record {
+  size = painted.size ∙ band.size;
+  wide = still_wide clip.width first n p xs ys band.wide painted;
+  numbered = band.numbered;
+}

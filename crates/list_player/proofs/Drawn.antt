@@ -1,7 +1,7 @@
 -- Dots of marks, and of one mark more.
-use Rattle.std.proofs.Common.{◌≡◌, ◌∙◌, ap, sym, subst, refl, arith, ℕ, suc, ◌+◌, ◌<◌, Bool, true, false, cond, ◌&&◌}
+use Rattle.std.proofs.Common.{◌≡◌, ◌∙◌, ap, sym, subst, refl, arith, append_assoc, ℕ, suc, ◌+◌, ◌<◌, Bool, true, false, cond, ◌&&◌}
 use Rattle.std.proofs.Common.{◌||◌, List, [], ◌∷◌, ◌++◌, length, get_or, replicate, reverse, Option, Some, None}
-use Rattle.std.proofs.lemmas.List.{reverse-append, get_or-replicate, length-replicate, get_or_default}
+use Rattle.std.proofs.lemmas.List.{append-nil, reverse-append, get_or-replicate, length-replicate, get_or_default}
 use Rattle.std.specs.List.{find, list_any, list_all, flat_map, range_with_len}
 use Rattle.std.specs.Option.{option_map_or}
 use Rattle.press_fault.specs.Plane.{CodeValue}
@@ -15,7 +15,8 @@ use Rattle.page_model.specs.Pages.{dot_bytes, row_text, rows_text}
 use Rattle.geo_clip.specs.Mask.{is_open}
 use Rattle.band_writer.specs.Said.{said_mark}
 use Rattle.list_player.specs.Painting.{over, given_where, IsPainted, ArePainted, AreWide}
-use Rattle.list_player.specs.Playing.{mark_dot, ShowMarks}
+use Rattle.list_player.specs.Code.Steps.{mark_dot, marks_dot, ShowMarks}
+use Rattle.list_player.proofs.Painting.{over_later}
 use Rattle.list_player.proofs.Bands.{still_wide}
 
 last_found : {D : Type 0} (dot : List ℕ → D) (f : MarkValue → List ℕ) (b : Bool) (mark : MarkValue)
@@ -36,19 +37,32 @@ dot_more dot depth tint marks mark row col =
     ∙ sym (ap (λ (ms : List MarkValue). dot (option_map_or (mark_rgb depth tint row col) (find (covers_dot row col) ms)
     (white depth))) (reverse-append marks (mark ∷ [])))
 
--- rows that show marks show one more once it is painted
+-- a dot after more marks
+dot_all : {D : Type 0} (dot : List ℕ → D) (depth : Depth) (tint : ℕ → CodeValue → List ℕ) (shown more : List MarkValue)
+    (row col : ℕ) →
+    over (marks_dot dot depth tint more row col) (dot (dot_rgb depth tint shown row col))
+    ≡ dot (dot_rgb depth tint (shown ++ more) row col)
+dot_all dot depth tint shown [] row col = ap (λ (ms : List MarkValue). dot (dot_rgb depth tint ms row col)) (sym (append-nil shown))
+dot_all dot depth tint shown (mark ∷ more) row col =
+    sym (over_later (mark_dot dot depth tint mark row col) (marks_dot dot depth tint more row col)
+    (dot (dot_rgb depth tint shown row col)))
+    ∙ (ap (over (marks_dot dot depth tint more row col)) (dot_more dot depth tint shown mark row col)
+    ∙ (dot_all dot depth tint (shown ++ mark ∷ []) more row col
+    ∙ ap (λ (ms : List MarkValue). dot (dot_rgb depth tint ms row col)) (append_assoc shown (mark ∷ []) more)))
+
+-- rows that show marks show more once these are painted
 pub shows_more : {D : Type 0} (dot : List ℕ → D) (depth : Depth) (tint : ℕ → CodeValue → List ℕ)
-    (width first count : ℕ) (marks : List MarkValue) (mark : MarkValue) (rows news : List (List D)) →
-    ShowMarks dot depth tint width first count marks rows →
-    ArePainted first count (mark_dot dot depth tint mark) rows news →
-    ShowMarks dot depth tint width first count (marks ++ mark ∷ []) news
-shows_more dot depth tint width first count marks mark rows news shown painted = record {
-  size = painted.size ∙ shown.size;
-  wide = still_wide width first count (mark_dot dot depth tint mark) rows news shown.wide painted;
-  dots = λ k col d early less. let inside = subst (λ n. k < n) (sym shown.size) early in
-      (painted.painted k early inside).dots col d (subst (λ n. col < n) (sym (shown.wide.each k inside)) less)
-      ∙ (ap (over (mark_dot dot depth tint mark (first + k) col)) (shown.dots k col d early less)
-      ∙ dot_more dot depth tint marks mark (first + k) col);
+    (width first count : ℕ) (shown more : List MarkValue) (rows news : List (List D)) →
+    ShowMarks dot depth tint width first count shown rows →
+    ArePainted first count (marks_dot dot depth tint more) rows news →
+    ShowMarks dot depth tint width first count (shown ++ more) news
+shows_more dot depth tint width first count shown more rows news show painted = record {
+  size = painted.size ∙ show.size;
+  wide = still_wide width first count (marks_dot dot depth tint more) rows news show.wide painted;
+  dots = λ k col d early less. let inside = subst (λ n. k < n) (sym show.size) early in
+      (painted.painted k early inside).dots col d (subst (λ n. col < n) (sym (show.wide.each k inside)) less)
+      ∙ (ap (over (marks_dot dot depth tint more (first + k) col)) (show.dots k col d early less)
+      ∙ dot_all dot depth tint shown more (first + k) col);
 }
 
 row_again : {D : Type 0} (width count k : ℕ) (white_dot : D) (rows : List (List D)) →
@@ -93,23 +107,6 @@ unfolding covers_dot
 flat_covers rule shapes clip ink row col =
     ap (λ b. b && is_open clip row col) (sym (or_false (list_any (shape_holds rule row col) shapes)))
 
--- shapes that are painted with an ink's dot are a mark's dots
-pub flat_painted : {D : Type 0} (dot : List ℕ → D) (depth : Depth) (tint : ℕ → CodeValue → List ℕ) (first count : ℕ)
-    (rule : Rule) (shapes : List Shape) (clip : List RegionValue) (ink : Ink) (rows news : List (List D)) →
-    ArePainted first count (λ row col. given_where (Some (dot (ink_rgb depth tint ink)))
-    (list_any (shape_holds rule row col) shapes && is_open clip row col)) rows news →
-    ArePainted first count (mark_dot dot depth tint (said_mark rule shapes clip (Flatly ink))) rows news
-flat_painted {D} dot depth tint first count rule shapes clip ink rows news painted = record {
-  size = painted.size;
-  painted = λ k early less. record {
-    size = (painted.painted k early less).size;
-    dots = λ col d inside. (painted.painted k early less).dots col d inside
-        ∙ ap (λ b. over (given_where (Some (dot (ink_rgb depth tint ink))) b) (get_or (get_or rows k []) col d))
-        (flat_covers rule shapes clip ink (first + k) col);
-  };
-  others = painted.others;
-}
-
 -- lists of bytes, one for each item, are those of a range where each item has those of its place
 joined : {X : Type 0} (f : X → List ℕ) (g : ℕ → List ℕ) (xs : List X) (first : ℕ) →
     ((k : ℕ) (d : X) → k < length xs → f (get_or xs k d) ≡ g (first + k)) →
@@ -147,17 +144,3 @@ rows_bytes {D} dot bytes depth tint width first count marks rows known shown =
     ∙ row_bytes dot bytes depth tint width (first + k) marks (get_or rows k []) known (shown.wide.each k less)
     (λ col e inside. shown.dots k col e early inside))
     ∙ ap (λ n. flat_map (row_text depth tint width marks) (range_with_len first n)) shown.size
-
--- an ink's dot, painted where shapes are open, adds a mark
-pub flat_drawn : {D : Type 0} (dot : List ℕ → D) (depth : Depth) (tint : ℕ → CodeValue → List ℕ)
-    (width first count : ℕ) (marks : List MarkValue) (rule : Rule) (shapes : List Shape) (clip : List RegionValue)
-    (ink : Ink) (painted : D) (rows news : List (List D)) → painted ≡ dot (ink_rgb depth tint ink) →
-    ShowMarks dot depth tint width first count marks rows →
-    ArePainted first count (λ row col. given_where (Some painted)
-    (list_any (shape_holds rule row col) shapes && is_open clip row col)) rows news →
-    ShowMarks dot depth tint width first count (marks ++ said_mark rule shapes clip (Flatly ink) ∷ []) news
-flat_drawn {D} dot depth tint width first count marks rule shapes clip ink painted rows news is shown put =
-    shows_more dot depth tint width first count marks (said_mark rule shapes clip (Flatly ink)) rows news shown
-    (flat_painted dot depth tint first count rule shapes clip ink rows news
-    (subst (λ (d : D). ArePainted first count (λ row col. given_where (Some d)
-    (list_any (shape_holds rule row col) shapes && is_open clip row col)) rows news) is put))

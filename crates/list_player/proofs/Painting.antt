@@ -2,7 +2,8 @@
 use Rattle.std.proofs.Common.{◌≡◌, ◌∙◌, ap, sym, subst, refl, inl, inr, ◌⊎◌, ℕ, ◌+◌, ◌-◌, ◌<◌, ◌≤◌, Bool, true, false}
 use Rattle.std.proofs.Common.{◌&&◌, ◌||◌, List, [], ◌∷◌, ◌++◌, length, get_or, take, drop, replicate, set, Option, Some, None}
 use Rattle.std.proofs.Common.{arith}
-use Rattle.std.proofs.lemmas.Bool.{cases_lt, cases_eq, nat_tests}
+use Rattle.std.proofs.lemmas.Bool.{cases_lt, cases_eq}
+use Rattle.std.proofs.lemmas.Bool.Decides.{nat_tests}
 use Rattle.std.proofs.lemmas.List.{length-append, length-take-le, length-drop, length-replicate, get_or_append_left}
 use Rattle.std.proofs.lemmas.List.{get_or-append_right, get_or-take, get_or-drop, get_or-replicate, length-set}
 use Rattle.std.proofs.lemmas.List.{get_or-set_same, get_or-set_other, take-replicate, take_all, take_at}
@@ -21,7 +22,7 @@ before_range from to col less = grind (arith, nat_tests)
 behind_range : (from to col : ℕ) → to ≤ col → is_in from to col ≡ false
 behind_range from to col more = grind (arith, nat_tests)
 
-over_later : {D : Type 0} (first second : Option D) (x : D) → over second (over first x) ≡ over (later first second) x
+pub over_later : {D : Type 0} (first second : Option D) (x : D) → over second (over first x) ≡ over (later first second) x
 over_later first None x = refl
 over_later first (Some y) x = refl
 
@@ -197,10 +198,10 @@ open_span_more paint open_at spans i span xs ys zs inside is one other = painted
     ∙ and_or (have_column (take i spans) col) (is_in span.first span.end col) (open_at col)) one other
 
 -- a span of a list ends within a bound that its columns have
-pub span_within : (spans : List SpanValue) (i n : ℕ) (span : SpanValue) → i < length spans →
-    span ≡ get_or spans i span → span.first < span.end →
-    ((col : ℕ) → have_column spans col ≡ true → col < n) → span.end ≤ n
-span_within spans i n span inside is some bound =
+pub span_within : (spans : List SpanValue) (i n : ℕ) (span : SpanValue) (first end : ℕ) → i < length spans →
+    span ≡ get_or spans i span → first ≡ span.first → end ≡ span.end → first < end →
+    ((col : ℕ) → have_column spans col ≡ true → col < n) → end ≤ n
+span_within spans i n span first end inside is begins ends some bound =
     let last = bound (span.end - 1) (list_any_at (λ (s : SpanValue). is_in s.first s.end (span.end - 1)) spans i span
     inside (ap (λ (s : SpanValue). is_in s.first s.end (span.end - 1)) (sym is)
     ∙ in_range span.first span.end (span.end - 1) (omega arith) (omega arith))) in
@@ -329,40 +330,79 @@ column_painted {D} p from at xs ys zs order one other = painted_twice _ _ _ xs y
     ]
 
 -- one span more is painted with an ink that has stayed
-pub ink_span_more : {D : Type 0} (ink now : D) (spans : List SpanValue) (i : ℕ) (span : SpanValue)
-    (xs ys zs : List D) → i < length spans → span ≡ get_or spans i span → now ≡ ink →
+pub ink_span_more : {D : Type 0} (ink now : D) (spans : List SpanValue) (i : ℕ) (span : SpanValue) (first end : ℕ)
+    (xs ys zs : List D) → i < length spans → span ≡ get_or spans i span → first ≡ span.first → end ≡ span.end →
+    now ≡ ink →
     IsPainted (λ col. given_where (Some ink) (have_column (take i spans) col)) xs ys →
-    IsPainted (λ col. given_where (Some now) (is_in span.first span.end col)) ys zs →
+    IsPainted (λ col. given_where (Some now) (is_in first end col)) ys zs →
     IsPainted (λ col. given_where (Some ink) (have_column (take (i + 1) spans) col)) xs zs
-ink_span_more {D} ink now spans i span xs ys zs inside is same one other =
+ink_span_more {D} ink now spans i span first end xs ys zs inside is begins ends same one other =
     span_more (λ col. Some ink) spans i span xs ys zs inside is one
-    (subst (λ (d : D). IsPainted (λ col. given_where (Some d) (is_in span.first span.end col)) ys zs) same other)
+    (subst (λ n. IsPainted (λ col. given_where (Some ink) (is_in n span.end col)) ys zs) begins
+    (subst (λ n. IsPainted (λ col. given_where (Some ink) (is_in first n col)) ys zs) ends
+    (subst (λ (d : D). IsPainted (λ col. given_where (Some d) (is_in first end col)) ys zs) same other)))
 
 -- one span more is painted, where a test is passed, with an ink that has stayed
 pub ink_open_span_more : {D : Type 0} (ink now : D) (open_at : ℕ → Bool) (spans : List SpanValue) (i : ℕ)
-    (span : SpanValue) (xs ys zs : List D) → i < length spans → span ≡ get_or spans i span → now ≡ ink →
+    (span : SpanValue) (first end : ℕ) (xs ys zs : List D) → i < length spans → span ≡ get_or spans i span →
+    first ≡ span.first → end ≡ span.end → now ≡ ink →
     IsPainted (λ col. given_where (Some ink) (have_column (take i spans) col && open_at col)) xs ys →
-    IsPainted (λ col. given_where (Some now) (is_in span.first span.end col && open_at col)) ys zs →
+    IsPainted (λ col. given_where (Some now) (is_in first end col && open_at col)) ys zs →
     IsPainted (λ col. given_where (Some ink) (have_column (take (i + 1) spans) col && open_at col)) xs zs
-ink_open_span_more {D} ink now open_at spans i span xs ys zs inside is same one other =
+ink_open_span_more {D} ink now open_at spans i span first end xs ys zs inside is begins ends same one other =
     open_span_more (λ col. Some ink) open_at spans i span xs ys zs inside is one
-    (subst (λ (d : D). IsPainted (λ col. given_where (Some d) (is_in span.first span.end col && open_at col)) ys zs)
-    same other)
+    (subst (λ n. IsPainted (λ col. given_where (Some ink) (is_in n span.end col && open_at col)) ys zs) begins
+    (subst (λ n. IsPainted (λ col. given_where (Some ink) (is_in first n col && open_at col)) ys zs) ends
+    (subst (λ (d : D). IsPainted (λ col. given_where (Some d) (is_in first end col && open_at col)) ys zs) same other)))
+
+-- the next run of open columns is painted, told by its ends
+pub run_of_ends : {D : Type 0} (paint : ℕ → Option D) (open_at : ℕ → Bool) (first from end begins ends : ℕ) (run : SpanValue)
+    (xs ys zs : List D) → first ≤ from → IsFirstRun from end open_at run → begins ≡ run.first → ends ≡ run.end →
+    begins < ends → IsPainted (λ col. given_where (paint col) (is_in first from col && open_at col)) xs ys →
+    IsPainted (λ col. given_where (paint col) (is_in begins ends col)) ys zs →
+    IsPainted (λ col. given_where (paint col) (is_in first ends col && open_at col)) xs zs
+run_of_ends {D} paint open_at first from end begins ends run xs ys zs order is starts stops some one other =
+    subst (λ n. IsPainted (λ col. given_where (paint col) (is_in first n col && open_at col)) xs zs) (sym stops)
+    (run_more paint open_at first from end run xs ys zs order (omega (arith, starts, stops, some)) is one
+    (subst (λ n. IsPainted (λ col. given_where (paint col) (is_in n run.end col)) ys zs) starts
+    (subst (λ n. IsPainted (λ col. given_where (paint col) (is_in begins n col)) ys zs) stops other)))
 
 -- the next run of open columns is painted with an ink that has stayed
-pub ink_run_more : {D : Type 0} (ink now : D) (open_at : ℕ → Bool) (first from end : ℕ) (run : SpanValue)
-    (xs ys zs : List D) → first ≤ from → run.first < run.end → IsFirstRun from end open_at run → now ≡ ink →
+pub ink_run_more : {D : Type 0} (ink now : D) (open_at : ℕ → Bool) (first from end begins ends : ℕ) (run : SpanValue)
+    (xs ys zs : List D) → first ≤ from → IsFirstRun from end open_at run → begins ≡ run.first → ends ≡ run.end →
+    begins < ends → now ≡ ink →
     IsPainted (λ col. given_where (Some ink) (is_in first from col && open_at col)) xs ys →
-    IsPainted (λ col. given_where (Some now) (is_in run.first run.end col)) ys zs →
-    IsPainted (λ col. given_where (Some ink) (is_in first run.end col && open_at col)) xs zs
-ink_run_more {D} ink now open_at first from end run xs ys zs order some is same one other =
-    run_more (λ col. Some ink) open_at first from end run xs ys zs order some is one
-    (subst (λ (d : D). IsPainted (λ col. given_where (Some d) (is_in run.first run.end col)) ys zs) same other)
+    IsPainted (λ col. given_where (Some now) (is_in begins ends col)) ys zs →
+    IsPainted (λ col. given_where (Some ink) (is_in first ends col && open_at col)) xs zs
+ink_run_more {D} ink now open_at first from end begins ends run xs ys zs order is starts stops some same one other =
+    run_of_ends (λ col. Some ink) open_at first from end begins ends run xs ys zs order is starts stops some one
+    (subst (λ (d : D). IsPainted (λ col. given_where (Some d) (is_in begins ends col)) ys zs) same other)
 
 -- a bound on columns holds of a row that was painted
-pub still_within : {D : Type 0} (p : ℕ → Option D) (spans : List SpanValue) (i : ℕ) (span : SpanValue) (xs ys : List D) →
-    i < length spans → span ≡ get_or spans i span → span.first < span.end →
-    ((col : ℕ) → have_column spans col ≡ true → col < length xs) → IsPainted p xs ys → span.end ≤ length ys
-still_within p spans i span xs ys inside is some bound painted =
-    span_within spans i (length ys) span inside is some
+pub still_within : {D : Type 0} (p : ℕ → Option D) (spans : List SpanValue) (i : ℕ) (span : SpanValue) (xs ys : List D)
+    (first end : ℕ) → i < length spans → span ≡ get_or spans i span → first ≡ span.first → end ≡ span.end →
+    first < end → ((col : ℕ) → have_column spans col ≡ true → col < length xs) → IsPainted p xs ys → end ≤ length ys
+still_within p spans i span xs ys first end inside is begins ends some bound painted =
+    span_within spans i (length ys) span first end inside is begins ends some
     (λ col has. subst (λ n. col < n) (sym painted.size) (bound col has))
+
+-- no column of a range is before its first
+pub none_in : {D : Type 0} (p : ℕ → Option D) (first : ℕ) (xs : List D) →
+    IsPainted (λ col. given_where (p col) (is_in first first col)) xs xs
+none_in p first xs = painted_as _ _ xs xs (λ col less. ap (given_where (p col)) (sym (empty col))) (unpainted p xs)
+  where
+    empty : (col : ℕ) → is_in first first col ≡ false
+    empty col = elim (cases_lt col first) [
+      | inl early ↦ before_range first first col early
+      | inr late ↦ behind_range first first col late
+    ]
+
+-- the paint of a column's sample, where the sample is told at that column
+pub column_more_of : {D S : Type 0} (p : S → Option D) (at_col : ℕ → S) (from at : ℕ) (found : S) (xs ys zs : List D) →
+    from ≤ at → found ≡ at_col at →
+    IsPainted (λ col. given_where (p (at_col col)) (is_in from at col)) xs ys →
+    IsPainted (λ col. given_where (p found) (is_in at (at + 1) col)) ys zs →
+    IsPainted (λ col. given_where (p (at_col col)) (is_in from (at + 1) col)) xs zs
+column_more_of {D} {S} p at_col from at found xs ys zs order is one other =
+    column_painted (λ col. p (at_col col)) from at xs ys zs order one
+    (subst (λ (s : S). IsPainted (λ col. given_where (p s) (is_in at (at + 1) col)) ys zs) is other)

@@ -8,7 +8,7 @@ ghost use Rattle.geo_clip.specs.Mask.{IsRowOfBand, is_open};
 ghost use Rattle.img_map.specs.declared.row.Pick.TheVariants.{Outside as NoSample, At as Number};
 ghost use Rattle.img_map.specs.Picks.{picked};
 ghost use Rattle.list_player.specs.Painting.{given_where, sample_dot, mask_dot, IsPainted};
-ghost use Rattle.list_player.specs.Playing.{lent_dot, code_dot};
+ghost use Rattle.list_player.specs.Code.Steps.{lent_dot, code_dot};
 ghost use Rattle.list_player.specs.Memo.{Remembers};
 
 use crate::Lent;

@@ -6,7 +6,7 @@ ghost use Rattle.page_model.specs.Cover.{plain_rgb, plain_at, white};
 ghost use Rattle.page_model.specs.Pages.{two_bytes, dot_bytes};
 ghost use Rattle.page_model.specs.declared.page.Depth.{Depth};
 ghost use Rattle.page_model.specs.declared.page.Depth.TheVariants.{Eight, Sixteen};
-ghost use Rattle.list_player.specs.Playing.{lent_at};
+ghost use Rattle.list_player.specs.Code.Steps.{lent_at};
 
 use crate::Lent;
 use page_model::plain_rule;

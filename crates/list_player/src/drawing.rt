@@ -9,7 +9,7 @@ ghost use Rattle.geo_clip.specs.Mask.{is_open};
 ghost use Rattle.img_map.specs.declared.row.Pick.TheVariants.{Outside as NoSample, At as Number};
 ghost use Rattle.img_map.specs.Picks.{HaveSamples};
 ghost use Rattle.list_player.specs.Painting.{given_where, sample_dot, mask_dot, ArePainted, IsBand};
-ghost use Rattle.list_player.specs.Playing.{lent_dot, code_dot};
+ghost use Rattle.list_player.specs.Code.Steps.{lent_dot, code_dot};
 ghost use Rattle.list_player.specs.Memo.{Remembers};
 
 use crate::Lent;

@@ -1,31 +1,16 @@
 //! The dots of codes that were converted lately.
 ghost use Rattle.std.specs.Prelude.{◌≡◌, ◌<◌, length, IfSome, OnOk};
 ghost use Rattle.press_fault.specs.Plane.{CodeValue};
-ghost use Rattle.list_player.specs.Playing.{lent_dot};
+ghost use Rattle.list_player.specs.Code.Steps.{lent_dot};
 ghost use Rattle.list_player.specs.Memo.{Remembers};
 
 use crate::Lent;
 use crate::dot::Dot;
 use press_fault::{Code, Mem};
 use std::alloc::Global;
-use std::marker::Model;
 
 /// A code, and its dot.
-#[derive(Clone, Copy)]
-pub(crate) struct Told<T: Copy> {
-    code: Code,
-    dot: T,
-}
-
-impl<T: Copy> Model for Told<T> {
-    ghost use Rattle.list_player.specs.Memo.{ToldValue};
-
-    ghost Value = { ToldValue T };
-
-    ghost view = { λ t. record { code = t.code; dot = t.dot } };
-
-    ghost inverse = { λ v. record { code = v.code; dot = v.dot } };
-}
+type Told<T> = (Code, T);
 
 /// How many codes are remembered at most: one a place, which a code tells.
 const PLACES: usize = 256;
@@ -66,7 +51,7 @@ pub(crate) fn lent_dot<T: Dot, L: Lent>(memo: &mut Memo<T>, code: Code, loan: &L
         return dot;
     }
     let dot = T::lent(loan, code);
-    memo.told[place] = Some(Told { code, dot });
+    memo.told[place] = Some((code, dot));
     dot
 }
 
@@ -75,12 +60,8 @@ fn recall<T: Copy>(told: &Vec<Option<Told<T>>>, place: usize, code: Code) -> Opt
     requires { place < length told.now.items }
     ensures { (dot_of : CodeValue → T) → Remembers dot_of told.now.items → IfSome result (λ dot. dot ≡ dot_of code) }
 {
-    let found = told[place]?;
-    if found.code == code {
-        Some(found.dot)
-    } else {
-        None
-    }
+    let (known, dot) = told[place]?;
+    if known == code { Some(dot) } else { None }
 }
 
 /// The place of a code.

@@ -8,7 +8,7 @@ ghost use Rattle.page_model.specs.Cover.{ImageHasChannels};
 ghost use Rattle.img_map.specs.declared.row.Pick.TheVariants.{Outside as NoSample, At as Number};
 ghost use Rattle.img_map.specs.Picks.{picked};
 ghost use Rattle.list_player.specs.Painting.{given_where, sample_dot, mask_dot, IsPainted};
-ghost use Rattle.list_player.specs.Playing.{lent_dot, code_dot};
+ghost use Rattle.list_player.specs.Code.Steps.{lent_dot, code_dot};
 ghost use Rattle.list_player.specs.Memo.{Remembers};
 
 use crate::Lent;
@@ -116,6 +116,15 @@ fn put_run<T: Copy>(row: &mut [T], first: usize, dots: &[T])
     run.copy_from_slice(dots);
 }
 
+/// The first column of a span, and the one behind its last.
+fn ends_of(span: &Span) -> (u32, u32)
+    ensures first { result.0 ≡ span.now.first }
+    ensures end { result.1 ≡ span.now.end }
+    ensures some { result.0 < result.1 }
+{
+    (span.first, span.end)
+}
+
 /// The dots of a row.
 #[derive(Drop)]
 pub(crate) struct DotRow<T: Copy> {
@@ -147,14 +156,15 @@ impl<T: Copy> DotRow<T> {
         &self.dots
     }
 
-    /// Puts an ink over the dots of a span.
-    fn put_span(&mut self, span: Span, ink: &mut InkRow<T>) -> Mem<()>
-        requires { span.end ≤ length self.old }
-        ensures ok { OnOk result (IsPainted (λ col. given_where (Some ink.old) (is_in span.first span.end col))
+    /// Puts an ink over the dots of the columns from `first` up to and without `end`.
+    fn put_span(&mut self, first: u32, end: u32, ink: &mut InkRow<T>) -> Mem<()>
+        requires order { first ≤ end }
+        requires within { end ≤ length self.old }
+        ensures ok { OnOk result (IsPainted (λ col. given_where (Some ink.old) (is_in first end col))
             self.old self.new) }
         ensures same { ink.new ≡ ink.old }
     {
-        ink.put(&mut self.dots, span.first as usize, span.end as usize)
+        ink.put(&mut self.dots, first as usize, end as usize)
     }
 
     /// Puts an ink over the dots of spans.
@@ -165,31 +175,36 @@ impl<T: Copy> DotRow<T> {
         ensures same { ink.new ≡ ink.old }
     {
         for span in spans {
-            self.put_span(*span, ink)?;
+            let (first, end) = ends_of(span);
+            self.put_span(first, end, ink)?;
         }
         Ok(())
     }
 
-    /// Puts an ink over the dots of a span that a mask leaves open. The row has this number on the page.
+    /// Puts an ink over the dots that a mask leaves open, in the columns from `first` up to and without `end`. The row
+    /// has this number on the page.
     fn put_open_span(
         &mut self,
-        span: Span,
+        first: u32,
+        end: u32,
         mask: &BandMask,
         row: u32,
         ink: &mut InkRow<T>,
     ) -> Mem<()>
         requires row { IsRowOfBand mask.now row }
-        requires range { span.end ≤ mask.now.width }
-        requires within { span.end ≤ length self.old }
+        requires order { first ≤ end }
+        requires range { end ≤ mask.now.width }
+        requires within { end ≤ length self.old }
         ensures ok { OnOk result (IsPainted
-            (λ col. given_where (Some ink.old) (is_in span.first span.end col && is_open mask.now.regions row col))
+            (λ col. given_where (Some ink.old) (is_in first end col && is_open mask.now.regions row col))
             self.old self.new) }
         ensures same { ink.new ≡ ink.old }
     {
-        let mut from = span.first;
-        while let Some(run) = mask.open_run(row, from, span.end) {
-            self.put_span(run, ink)?;
-            from = run.end;
+        let mut from = first;
+        while let Some(run) = mask.open_run(row, from, end) {
+            let (begins, ends) = ends_of(&run);
+            self.put_span(begins, ends, ink)?;
+            from = ends;
         }
         Ok(())
     }
@@ -211,7 +226,8 @@ impl<T: Copy> DotRow<T> {
         ensures same { ink.new ≡ ink.old }
     {
         for span in spans {
-            self.put_open_span(*span, mask, row, ink)?;
+            let (first, end) = ends_of(span);
+            self.put_open_span(first, end, mask, row, ink)?;
         }
         Ok(())
     }
@@ -272,8 +288,9 @@ impl<T: Dot> DotRow<T> {
     {
         let mut from = 0;
         while let Some(run) = mask.open_run(row, from, width) {
-            self.put_samples(picks, run.first, run.end, image, memo, loan);
-            from = run.end;
+            let (begins, ends) = ends_of(&run);
+            self.put_samples(picks, begins, ends, image, memo, loan);
+            from = ends;
         }
     }
 }
@@ -316,8 +333,9 @@ impl<T: Copy> DotRow<T> {
     {
         let mut from = 0;
         while let Some(run) = mask.open_run(row, from, width) {
-            self.put_mask(picks, run.first, run.end, image, dot);
-            from = run.end;
+            let (begins, ends) = ends_of(&run);
+            self.put_mask(picks, begins, ends, image, dot);
+            from = ends;
         }
     }
 }

@@ -11,17 +11,18 @@ loop-i-preserved g c =
     c.loop-i-test.true c.loop-i.invariant.walks) in
     let size = c.loop-i.invariant.painted.size in
     let row = c.index_mut-row.ensures.value ∙ get_or_default c.loop-i.rows.items c.loop-i.i
-    c.index_mut-row.result.now [] (omega (arith, size, c.requires.size)) in
-    let wide = next_wide c.args.width c.args.first c.loop-i.i _ c.args.rows.now.items c.loop-i.rows.items
-    c.requires.wide (omega (arith, c.requires.size)) c.loop-i.invariant.painted in
+    c.index_mut-row.result.now [] (omega (arith, size, c.requires.band.size)) in
+    let wide = next_wide c.args.clip.now.width c.args.first c.loop-i.i _ c.args.rows.now.items c.loop-i.rows.items
+    c.requires.band.wide (omega (arith, c.requires.band.size)) c.loop-i.invariant.painted in
     record {
       walks = at_next c.args.shape.now c.args.rule c.args.first
           (c.args.count - (c.loop-i.i + 1)) c.loop-i.i c.next_row.new.self found.walks;
       painted = rows_more c.args.first c.loop-i.i _ c.args.rows.now.items c.loop-i.rows.items c.put.new.row
-          (omega (arith, size, c.requires.size)) c.loop-i.invariant.painted
+          (omega (arith, size, c.requires.band.size)) c.loop-i.invariant.painted
           (walk_row _ _ c.args.shape.now c.args.rule c.args.width (c.args.first + c.loop-i.i) c.args.clip.now.regions
           c.next_row.new.out c.items.result.now (get_or c.loop-i.rows.items c.loop-i.i []) _ c.put.new.row
-          c.items.ensures.value found.columns wide row c.loop-i.invariant.same c.in_ok-put.ensures.ok);
+          c.items.ensures.value found.columns (wide ∙ c.requires.width) row c.loop-i.invariant.same
+          c.in_ok-put.ensures.ok);
       same = c.put.ensures.same ∙ c.loop-i.invariant.same;
     }
 
@@ -38,7 +39,7 @@ pub put-requires-clause-within : goal.put-requires-clause-within
 put-requires-clause-within g c =
     let size = c.loop-i.invariant.painted.size in
     let row = c.index_mut-row.ensures.value ∙ get_or_default c.loop-i.rows.items c.loop-i.i
-    c.index_mut-row.result.now [] (omega (arith, size, c.requires.size)) in
+    c.index_mut-row.result.now [] (omega (arith, size, c.requires.band.size)) in
     ap length row
-    ∙ (next_wide c.args.width c.args.first c.loop-i.i _ c.args.rows.now.items c.loop-i.rows.items
-    c.requires.wide (omega (arith, c.requires.size)) c.loop-i.invariant.painted ∙ sym c.requires.width)
+    ∙ next_wide c.args.clip.now.width c.args.first c.loop-i.i _ c.args.rows.now.items c.loop-i.rows.items
+    c.requires.band.wide (omega (arith, c.requires.band.size)) c.loop-i.invariant.painted
