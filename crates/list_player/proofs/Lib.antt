@@ -1,0 +1,6 @@
+mod Painting
+mod Bands
+mod Drawn
+mod Counts
+mod Steps
+mod Plays

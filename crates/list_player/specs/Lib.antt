@@ -1,0 +1,4 @@
+pub mod Painting
+pub mod Memo
+pub mod Playing
+pub mod Code

@@ -1,0 +1,6 @@
+//! Bands drawn from their lists, beside the page dot by dot.
+#![tactic(auto)]
+
+mod marks;
+mod tests;
+mod tints;
