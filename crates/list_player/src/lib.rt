@@ -9,6 +9,7 @@ mod colours;
 mod dot;
 mod dots;
 mod drawing;
+mod laws;
 mod memo;
 mod picture;
 mod playing;
@@ -17,4 +18,5 @@ mod rows;
 
 pub use colours::{Colours, Lent};
 pub use dots::BandDots;
+pub use laws::bytes_say_their_marks_once;
 pub use playing::play;

@@ -3,8 +3,8 @@ use Rattle.std.proofs.Common.{◌≡◌, ◌<◌, ◌+◌, ◌∙◌, ◌++◌, 
 use Rattle.std.proofs.Common.{append_assoc, length}
 use Rattle.std.proofs.lemmas.List.{append-nil}
 use Rattle.press_ports.specs.Causes.{with_piece, WritesProperFront}
-use Rattle.press_job.specs.declared.tally.Tally.{Tally}
-use Rattle.press_job.specs.Code.Taken.{HasTaken, PassesOn, FollowsSink}
+use Rattle.page_output.specs.declared.tally.Tally.{Tally}
+use Rattle.page_output.specs.Code.Taken.{HasTaken, PassesOn, FollowsSink}
 use Rattle.press_job.proofs.Fronts.{with_both, with_nothing}
 
 -- nothing was taken

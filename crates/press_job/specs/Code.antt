@@ -1,4 +1,3 @@
 pub mod Seen
 pub mod Painted
-pub mod Taken
 pub mod Turn

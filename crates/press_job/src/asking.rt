@@ -27,6 +27,8 @@ pub(crate) struct Asked<'a> {
     pub(crate) page: Setup,
     /// How many bits a sample of a page has.
     pub(crate) depth: Depth,
+    /// The rows of a band, at least 1.
+    pub(crate) band: u32,
     /// Where the text of the program comes from.
     pub(crate) source: Source<'a>,
     /// Whether the report line is wanted.
@@ -66,6 +68,7 @@ fn asked_by<'a>(options: &Options<'a>) -> Option<Asked<'a>>
     Some(Asked {
         page: setup_of(options.page),
         depth: depth_of(options.depth),
+        band: options.band,
         source,
         report: options.report,
     })

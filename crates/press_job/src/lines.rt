@@ -6,18 +6,18 @@ ghost use Rattle.press_fault.specs.Names.{text_of};
 ghost use Rattle.press_ports.specs.Causes.{Rose, with_piece, WritesFront, WritesProperFront};
 ghost use Rattle.press_job.specs.Asked.{is_sample};
 ghost use Rattle.press_job.specs.Code.Seen.{seen, seen_source};
-ghost use Rattle.press_job.specs.Code.Taken.{HasTaken};
+ghost use Rattle.page_output.specs.Code.Taken.{HasTaken};
 ghost use Rattle.press_job.specs.Lines.{line_of, which_text, printable, report_part, stands_alone, asked_lines};
-ghost use Rattle.press_job.specs.Lines.{lines_of};
+ghost use Rattle.press_job.specs.Lines.{lines_of, sample_part};
 
-use crate::asking::Asked;
+use crate::asking::{Asked, Source};
 use crate::running::Ending;
-use crate::tally::Tally;
 use arrayvec::ArrayVec;
 use itoa::Buffer;
+use page_output::{Taken, Tally};
 use press_fault::{Name, PsName, Status, Which};
 use press_ports::{Sink, WriteFault, send};
-use press_words::{Counts, Line, report_line};
+use press_words::{Counts, Line, report_line, sample_line};
 use std::marker::Model;
 
 /// A line of at most 512 bytes, held in itself.
@@ -217,6 +217,19 @@ pub(crate) fn tell_run<E: Sink>(err: &mut E, asked: &Asked<'_>, ending: &Ending,
     );
 }
 
+/// The line of a sample page, by what the tally took in.
+fn line_of_sample(source: &Source<'_>, tally: Tally) -> Option<Line>
+    ensures { (taken : List ℕ) → HasTaken (is_sample (seen_source source.now)) tally taken
+        → unwrap_or result [] ≡ sample_part (seen_source source.now) taken }
+{
+    let Source::Sample(n) = source else {
+        return None;
+    };
+    let Taken { bytes, digest } = tally.finish();
+    let digest = digest?;
+    Some(sample_line(*n, bytes, &digest))
+}
+
 /// The lines that are asked for; none where that of the status stands alone.
 fn lines_behind(asked: &Asked<'_>, ending: &Ending, tally: Tally) -> Behind
     ensures { (taken : List ℕ) → HasTaken (is_sample (seen_source asked.now.source)) tally taken
@@ -231,7 +244,7 @@ fn lines_behind(asked: &Asked<'_>, ending: &Ending, tally: Tally) -> Behind
     }
     Behind {
         report: report_part(asked.report, ending.shown),
-        sample: tally.line(&asked.source),
+        sample: line_of_sample(&asked.source, tally),
     }
 }
 

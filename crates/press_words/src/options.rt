@@ -90,11 +90,13 @@ pub struct Options<'a> {
 }
 
 impl<'a> Model for Options<'a> {
-    ghost use Rattle.std.specs.Prelude.{map};
+    ghost use Rattle.std.specs.Prelude.{map, ◌≤◌};
     ghost use Rattle.press_words.specs.Options.{OptionsValue};
     ghost use Rattle.press_words.specs.Code.Seen.{text_in, seen_file};
 
     ghost Value = { OptionsValue };
+
+    ghost invariant = { λ o. 1 ≤ o.band };
 
     ghost view = { λ o. record {
       size = o.size;
@@ -304,6 +306,7 @@ fn options_with<'a>(
     program: Option<&'a str>,
     named: ArrayVec<NamedFile<'a>, 16>,
 ) -> Options<'a>
+    requires { AreInRange chosen.now }
     ensures { result ≡ options_with (chosen_so_far chosen.now) page (text_in program.entry)
         (map seen_file named.entry.items) }
 {

@@ -40,7 +40,7 @@ chosen_so_far c = record {
 -- what was chosen is within the bounds of its option
 abbrev pub AreInRange : Chosen → Type 0
 AreInRange c = IfSome c.size (λ sides. (sides.0 ≤ 14400) × (sides.1 ≤ 14400)) ×
-    IfSome c.res (λ res. (1 ≤ res) × (res ≤ 2400))
+    IfSome c.res (λ res. (1 ≤ res) × (res ≤ 2400)) × IfSome c.band (λ band. 1 ≤ band)
 
 -- the form of a word, with the texts that it refers to
 abbrev pub seen_form : Read → FormValue
