@@ -1,8 +1,8 @@
 -- Rows of a band after paints.
 use Rattle.std.proofs.Common.{◌≡◌, ◌∙◌, ap, sym, subst, refl, inl, inr, ℕ, ◌+◌, ◌-◌, ◌<◌, ◌≤◌, Bool, true, false}
-use Rattle.std.proofs.Common.{◌&&◌, ◌||◌, List, [], length, get_or, set, take, Option, Some, arith}
+use Rattle.std.proofs.Common.{◌&&◌, ◌||◌, List, [], length, get_or, set, take, replicate, Option, Some, arith, ◌^◌}
 use Rattle.std.proofs.lemmas.Bool.{cases_lt, cases_eq, and_parts, and_from, le-leb, lt-ltb, ltb-true}
-use Rattle.std.proofs.lemmas.List.{length-set, get_or-set_same, get_or-set_other}
+use Rattle.std.proofs.lemmas.List.{length-replicate, get_or-replicate, length-set, get_or-set_same, get_or-set_other}
 use Rattle.std.proofs.lemmas.List.Folds.{list_any_more}
 use Rattle.std.specs.Prelude.{nat_le, nat_lt}
 use Rattle.std.specs.List.{list_any}
@@ -10,6 +10,11 @@ use Rattle.page_model.specs.Marking.{RegionValue}
 use Rattle.page_model.specs.declared.shape.Rule.{Rule}
 use Rattle.page_model.specs.declared.shape.Shape.{Shape}
 use Rattle.page_model.specs.Cover.{shape_holds}
+use Rattle.page_model.specs.Image.{ImageValue}
+use Rattle.page_model.specs.Sample.{sample_at}
+use Rattle.img_map.specs.declared.row.Pick.{Pick}
+use Rattle.img_map.specs.declared.row.Pick.TheVariants.{Outside}
+use Rattle.img_map.specs.Picks.{picked, HaveSamples}
 use Rattle.geo_fill.specs.Spans.{SpanValue, is_in, have_column, HaveJust}
 use Rattle.geo_fill.specs.Walk.{EdgeWalkValue, Walks}
 use Rattle.geo_clip.specs.Mask.{is_open}
@@ -193,4 +198,46 @@ still_band clip first n p xs ys band painted = record {
   size = painted.size ∙ band.size;
   wide = still_wide clip.width first n p xs ys band.wide painted;
   numbered = band.numbered;
+  narrow = band.narrow;
 }
+
+sampled_here : {D : Type 0} (paint : Option ℕ → Option D) (holds : ℕ → Bool) (image : ImageValue) (number width : ℕ)
+    (picks : List Pick) (row old new : List D) → HaveSamples image number 0 picks → length picks ≡ width →
+    length row ≡ width → old ≡ row →
+    IsPainted (λ col. given_where (paint (picked (get_or picks col Outside))) (holds col)) old new →
+    IsPainted (λ col. given_where (paint (sample_at image number col)) (holds col)) row new
+sampled_here {D} paint holds image number width picks row old new have long wide was painted =
+    subst (λ (r : List D). IsPainted (λ col. given_where (paint (sample_at image number col)) (holds col)) r new) was
+    (painted_as _ _ old new (λ col less. ap (λ (o : Option ℕ). given_where (paint o) (holds col)) (at_col col
+    (subst (λ (r : List D). col < length r) was less))) painted)
+  where
+    at_col : (col : ℕ) → col < length row → picked (get_or picks col Outside) ≡ sample_at image number col
+    at_col col less = have col (omega (arith, long, wide, less))
+        ∙ ap (sample_at image number) (let e : 0 + col ≡ col = omega arith in e)
+
+-- a row that is painted by the samples of its dots
+pub sampled_row : {D : Type 0} (paint : Option ℕ → Option D) (holds : ℕ → ℕ → Bool) (image : ImageValue)
+    (number picked_at put_at width : ℕ) (picks : List Pick) (row old new : List D) → picked_at ≡ number → put_at ≡ number →
+    HaveSamples image picked_at 0 picks → length picks ≡ width → length row ≡ width → old ≡ row →
+    IsPainted (λ col. given_where (paint (picked (get_or picks col Outside))) (holds put_at col)) old new →
+    IsPainted (λ col. given_where (paint (sample_at image number col)) (holds number col)) row new
+sampled_row {D} paint holds image number picked_at put_at width picks row old new picks_here puts_here have long wide was painted =
+    sampled_here paint (holds number) image number width picks row old new
+    (subst (λ n. HaveSamples image n 0 picks) picks_here have) long wide was
+    (subst (λ n. IsPainted (λ col. given_where (paint (picked (get_or picks col Outside))) (holds n col)) old new)
+    puts_here painted)
+
+-- rows of one kind are those of their band
+pub new_band : {D : Type 0} (width first count : ℕ) (dot : D) (clip : BandMaskValue) (rows : List (List D)) →
+    clip ≡ record { width = width; first = first; rows = count; regions = [] } →
+    rows ≡ replicate count (replicate width dot) → first + count ≤ 2 ^ 32 → width < 2 ^ 32 → IsBand clip rows
+new_band {D} width first count dot clip rows same is numbered narrow =
+    subst (λ (c : BandMaskValue). IsBand c rows) (sym same)
+    (subst (λ (l : List (List D)). IsBand (record { width = width; first = first; rows = count; regions = [] }) l) (sym is)
+    (record {
+      size = length-replicate count (replicate width dot);
+      wide = record { each = λ k less. ap (λ (r : List D). length r) (get_or-replicate count k (replicate width dot) []
+          (subst (λ n. k < n) (length-replicate count (replicate width dot)) less)) ∙ length-replicate width dot };
+      numbered = numbered;
+      narrow = narrow;
+    }))

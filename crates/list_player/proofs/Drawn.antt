@@ -127,7 +127,8 @@ row_bytes : {D : Type 0} (dot : List ℕ → D) (bytes : D → List ℕ) (depth 
 unfolding row_text
 row_bytes {D} dot bytes depth tint width number marks row known size shown =
     joined bytes (λ col. dot_bytes depth (dot_rgb depth tint marks number col)) row 0
-    (λ k d less. ap bytes (shown k d (subst (λ n. k < n) size less)) ∙ known (dot_rgb depth tint marks number k))
+    (λ k d less. ap bytes (shown k d (subst (λ n. k < n) size less)) ∙ (known (dot_rgb depth tint marks number k)
+    ∙ ap (λ n. dot_bytes depth (dot_rgb depth tint marks number n)) (let e : k ≡ 0 + k = omega arith in e)))
     ∙ ap (λ n. flat_map (λ col. dot_bytes depth (dot_rgb depth tint marks number col)) (range_with_len 0 n)) size
 
 -- the bytes of rows that show marks

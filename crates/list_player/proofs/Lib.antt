@@ -4,3 +4,4 @@ mod Drawn
 mod Counts
 mod Steps
 mod Plays
+mod Lists

@@ -45,17 +45,30 @@ unpainted_rows {D} first n p xs nothing = repainted first n (λ row col. None) p
       others = λ k late. refl;
     })
 
--- what shapes painted with an ink's dot are
-pub drawn_cmd : {D : Type 0} (dot : List ℕ → D) (depth : Depth) (tint : ℕ → CodeValue → List ℕ) (first n : ℕ)
+drawn_shapes : {D : Type 0} (dot : List ℕ → D) (depth : Depth) (tint : ℕ → CodeValue → List ℕ) (first n : ℕ)
     (images : List ImageValue) (ink : Ink) (regions : List RegionValue) (rule : Rule) (shapes : List Shape) (painted : D)
     (xs ys : List (List D)) → painted ≡ dot (ink_rgb depth tint ink) →
     ArePainted first n (λ row col. given_where (Some painted)
     (list_any (shape_holds rule row col) shapes && is_open regions row col)) xs ys →
     ArePainted first n (marks_dot dot depth tint (cmd_marks images ink regions (Drawn rule shapes))) xs ys
-drawn_cmd {D} dot depth tint first n images ink regions rule shapes painted xs ys is put =
+drawn_shapes {D} dot depth tint first n images ink regions rule shapes painted xs ys is put =
     repainted first n _ (marks_dot dot depth tint (cmd_marks images ink regions (Drawn rule shapes))) xs ys
     (λ row col. ap (λ (d : D). given_where (Some d) (list_any (shape_holds rule row col) shapes && is_open regions row col)) is
     ∙ ap (given_where (Some (dot (ink_rgb depth tint ink)))) (flat_covers rule shapes regions ink row col)) put
+
+-- what shapes painted with an ink's dot are
+pub drawn_cmd : {D : Type 0} (dot : List ℕ → D) (depth : Depth) (tint : ℕ → CodeValue → List ℕ) (first n : ℕ)
+    (images : List ImageValue) (ink : Ink) (regions : List RegionValue) (rule : Rule) (shapes : List Shape) (painted : D)
+    (seen : List Shape) (cmd : CmdValue) (xs ys : List (List D)) → cmd ≡ Drawn rule shapes → seen ≡ shapes →
+    painted ≡ dot (ink_rgb depth tint ink) →
+    ArePainted first n (λ row col. given_where (Some painted)
+    (list_any (shape_holds rule row col) seen && is_open regions row col)) xs ys →
+    ArePainted first n (marks_dot dot depth tint (cmd_marks images ink regions cmd)) xs ys
+drawn_cmd {D} dot depth tint first n images ink regions rule shapes painted seen cmd xs ys said same is put =
+    subst (λ (c : CmdValue). ArePainted first n (marks_dot dot depth tint (cmd_marks images ink regions c)) xs ys) (sym said)
+    (drawn_shapes dot depth tint first n images ink regions rule shapes painted xs ys is
+    (subst (λ (l : List Shape). ArePainted first n (λ row col. given_where (Some painted)
+    (list_any (shape_holds rule row col) l && is_open regions row col)) xs ys) same put))
 
 given_both : {D : Type 0} (d : D) (b o : Bool) → given_where (given_where (Some d) b) o ≡ given_where (Some d) (b && o)
 given_both d true true = refl
@@ -91,48 +104,34 @@ masked_dot dot depth tint ink regions image row col = given_both (dot (ink_rgb d
 
 -- what the samples of an image are
 pub shown_cmd : {D : Type 0} (dot : List ℕ → D) (depth : Depth) (colour wide : CodeValue → List ℕ) (first n : ℕ)
-    (images : List ImageValue) (ink : Ink) (regions : List RegionValue) (place : ℕ) (image : ImageValue)
-    (xs ys : List (List D)) → Some image ≡ slice_get images place →
+    (images : List ImageValue) (ink : Ink) (regions : List RegionValue) (place : ℕ) (image : ImageValue) (cmd : CmdValue)
+    (xs ys : List (List D)) → cmd ≡ Shown place → Some image ≡ slice_get images place →
     ArePainted first n (λ row col. given_where
     (sample_dot (code_dot dot depth colour wide image.source) image (sample_at image row col))
     (is_open regions row col)) xs ys →
-    ArePainted first n (marks_dot dot depth (loan_tint depth colour wide) (cmd_marks images ink regions (Shown place))) xs ys
-shown_cmd dot depth colour wide first n images ink regions place image xs ys found put =
-    repainted first n _ (marks_dot dot depth (loan_tint depth colour wide) (cmd_marks images ink regions (Shown place))) xs ys
+    ArePainted first n (marks_dot dot depth (loan_tint depth colour wide) (cmd_marks images ink regions cmd)) xs ys
+shown_cmd dot depth colour wide first n images ink regions place image cmd xs ys said found put =
+    subst (λ (c : CmdValue). ArePainted first n
+    (marks_dot dot depth (loan_tint depth colour wide) (cmd_marks images ink regions c)) xs ys) (sym said)
+    (repainted first n _ (marks_dot dot depth (loan_tint depth colour wide) (cmd_marks images ink regions (Shown place))) xs ys
     (λ row col. shown_dot dot depth colour wide regions image row col
     ∙ ap (λ (o : Option ImageValue). marks_dot dot depth (loan_tint depth colour wide)
-    (image_marks regions o (λ i. Pictured i) []) row col) found) put
+    (image_marks regions o (λ i. Pictured i) []) row col) found) put)
 
 -- what an ink through a mask is
 pub masked_cmd : {D : Type 0} (dot : List ℕ → D) (depth : Depth) (tint : ℕ → CodeValue → List ℕ) (first n : ℕ)
     (images : List ImageValue) (ink : Ink) (regions : List RegionValue) (place : ℕ) (image : ImageValue) (painted : D)
-    (xs ys : List (List D)) → Some image ≡ slice_get images place → painted ≡ dot (ink_rgb depth tint ink) →
+    (cmd : CmdValue) (xs ys : List (List D)) → cmd ≡ ShownThrough place → Some image ≡ slice_get images place →
+    painted ≡ dot (ink_rgb depth tint ink) →
     ArePainted first n (λ row col. given_where (mask_dot painted image (sample_at image row col))
     (is_open regions row col)) xs ys →
-    ArePainted first n (marks_dot dot depth tint (cmd_marks images ink regions (ShownThrough place))) xs ys
-masked_cmd {D} dot depth tint first n images ink regions place image painted xs ys found is put =
-    repainted first n _ (marks_dot dot depth tint (cmd_marks images ink regions (ShownThrough place))) xs ys
+    ArePainted first n (marks_dot dot depth tint (cmd_marks images ink regions cmd)) xs ys
+masked_cmd {D} dot depth tint first n images ink regions place image painted cmd xs ys said found is put =
+    subst (λ (c : CmdValue). ArePainted first n (marks_dot dot depth tint (cmd_marks images ink regions c)) xs ys) (sym said)
+    (repainted first n _ (marks_dot dot depth tint (cmd_marks images ink regions (ShownThrough place))) xs ys
     (λ row col. ap (λ (d : D). given_where (mask_dot d image (sample_at image row col)) (is_open regions row col)) is
     ∙ (masked_dot dot depth tint ink regions image row col
-    ∙ ap (λ (o : Option ImageValue). marks_dot dot depth tint (image_marks regions o (λ i. Masked i ink) []) row col) found)) put
-
--- no image is shown where there is none
-pub none_shown : {D : Type 0} (dot : List ℕ → D) (depth : Depth) (tint : ℕ → CodeValue → List ℕ) (first n : ℕ)
-    (images : List ImageValue) (ink : Ink) (regions : List RegionValue) (place : ℕ) (xs : List (List D)) →
-    None ≡ slice_get images place →
-    ArePainted first n (marks_dot dot depth tint (cmd_marks images ink regions (Shown place))) xs xs
-none_shown dot depth tint first n images ink regions place xs none = unpainted_rows first n _ xs
-    (λ row col. ap (λ (o : Option ImageValue). marks_dot dot depth tint (image_marks regions o (λ i. Pictured i) [])
-    row col) (sym none))
-
--- nothing is painted through a mask where there is none
-pub none_masked : {D : Type 0} (dot : List ℕ → D) (depth : Depth) (tint : ℕ → CodeValue → List ℕ) (first n : ℕ)
-    (images : List ImageValue) (ink : Ink) (regions : List RegionValue) (place : ℕ) (xs : List (List D)) →
-    None ≡ slice_get images place →
-    ArePainted first n (marks_dot dot depth tint (cmd_marks images ink regions (ShownThrough place))) xs xs
-none_masked dot depth tint first n images ink regions place xs none = unpainted_rows first n _ xs
-    (λ row col. ap (λ (o : Option ImageValue). marks_dot dot depth tint (image_marks regions o (λ i. Masked i ink) [])
-    row col) (sym none))
+    ∙ ap (λ (o : Option ImageValue). marks_dot dot depth tint (image_marks regions o (λ i. Masked i ink) []) row col) found)) put)
 
 -- the colour of an ink that a loan serves
 ink_agrees : (depth : Depth) (tint : ℕ → CodeValue → List ℕ) (colour wide : CodeValue → List ℕ) (source : Option ℕ)

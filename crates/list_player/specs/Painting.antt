@@ -45,6 +45,7 @@ pub record IsBand {D : Type 0} (clip : BandMaskValue) (rows : List (List D)) : T
   pub size : length rows ≡ clip.rows
   pub wide : AreWide clip.width rows
   pub numbered : clip.first + clip.rows ≤ 2 ^ 32
+  pub narrow : clip.width < 2 ^ 32
 
 -- what the sample of a dot paints it with, if it has one: the dot that its code is given
 abbrev pub sample_dot : {D : Type 0} → (CodeValue → D) → ImageValue → Option ℕ → Option D

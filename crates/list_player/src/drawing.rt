@@ -42,6 +42,7 @@ impl<T: Dot> Band<T> {
         ensures rows { IfOk result (λ band. band.rows.items ≡ replicate count (replicate width (T.dot (white T.depth)))) }
         ensures clip { IfOk result (λ band.
             band.clip ≡ record { width = width; first = first; rows = count; regions = [] }) }
+        ensures band { IfOk result (λ band. IsBand band.clip band.rows.items) }
     {
         let white = T::white();
         Ok(Band {
@@ -140,6 +141,16 @@ fn pick_row(picks: &mut Vec<Pick>, image: &Image, row: u32)
     ensures size { length picks.new.items ≡ length picks.old.items }
     ensures samples { HaveSamples image.now row 0 picks.new.items }
     ensures inside { (k n : ℕ) → k < length picks.new.items → slice_index_or picks.new.items k NoSample ≡ Number n →
+        n < image.now.width * image.now.rows }
+{
+    pick_dots(picks, image, row);
+}
+
+/// `pick_row` of a slice: a function of its own, so that its caller sees the whole list.
+fn pick_dots(picks: &mut [Pick], image: &Image, row: u32)
+    requires { length picks.old ≤ 2 ^ 32 }
+    ensures samples { HaveSamples image.now row 0 picks.new }
+    ensures inside { (k n : ℕ) → k < length picks.new → slice_index_or picks.new k NoSample ≡ Number n →
         n < image.now.width * image.now.rows }
 {
     row_samples(image, row, 0, picks);

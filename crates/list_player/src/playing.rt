@@ -19,7 +19,8 @@ ghost use Rattle.list_player.specs.Memo.{Remembers};
 ghost use Rattle.list_player.specs.Playing.{SayMarks, dots_of, tint_at};
 ghost use Rattle.list_player.specs.Code.Steps.{lent_at, lent_dot, loan_tint, marks_dot, cmd_marks, cmd_source, ink_after};
 ghost use Rattle.list_player.specs.Code.Steps.{clip_after, CmdHasChannels, AreServable, NeedsNow, GoesBy, IsPlayed};
-ghost use Rattle.list_player.specs.Code.Steps.{HasPlayed, is_served as serves, awaited};
+ghost use Rattle.list_player.specs.Code.Steps.{HasPlayed, ShowMarks, is_served as serves, awaited};
+ghost use Rattle.band_writer.specs.Parts.{AreSpellings};
 
 use crate::colours::Unlinked;
 use crate::dot::Dot;
@@ -96,16 +97,11 @@ fn play_at<T: Dot, C: Colours>(
         OnErr result (C.tries colours.new ≤ C.tries colours.old + length (needs_of marks)) }
     ensures free { C.is_busy colours.new ≡ false }
 {
-    let mut playing = Playing::<T>::new(alloc, parts, list.band())?;
-    let images = parts.images.items();
-    let mut rest = playing.run(images, list.bytes(), &Unlinked)?;
-    while let Some(source) = playing.need {
-        let loan = colours.lend(alloc, source)?;
-        let ran = playing.run(images, rest, &loan);
-        colours.give_back(loan);
-        rest = ran?;
-    }
-    playing.finish(alloc, list.band())
+    let band = list.band();
+    let mut playing = Playing::<T>::new(alloc, parts, band)?;
+    playing.play_list(alloc, parts.images.items(), list.bytes(), colours)?;
+    let dots = playing.finish(alloc, band)?;
+    Ok(dots)
 }
 
 /// A band that is being drawn from its list.
@@ -134,11 +130,13 @@ impl<T: Dot> Playing<T> {
             rows = rows_of_band parts.now.height parts.now.band band;
             regions = [];
         }) }
+        ensures band { IfOk result (λ playing. IsBand playing.band.clip playing.band.rows.items) }
         ensures ink { IfOk result (λ playing. playing.ink ≡ opening.ink) }
         ensures need { IfOk result (λ playing. playing.need ≡ None) }
     {
-        let first = first_of(parts, band);
-        let count = count_of(parts, first, band);
+        let (height, rows) = (parts.height, parts.band);
+        let first = first_of(height, rows, band);
+        let count = count_of(height, rows, first, band);
         Ok(Playing {
             band: Band::new(alloc, parts.width, first, count)?,
             memo: Memo::new(alloc),
@@ -146,6 +144,50 @@ impl<T: Dot> Playing<T> {
             commands: CmdRoom::new(alloc),
             need: None,
         })
+    }
+
+    /// Plays a list from its beginning, over white rows.
+    fn play_list<C: Colours>(
+        &mut self,
+        alloc: Global,
+        images: &[Arc<Image>],
+        bytes: &[u8],
+        colours: &mut C,
+    ) -> Mem<()>
+        requires band { IsBand self.old.band.clip self.old.band.rows.items }
+        requires white { (tint : ℕ → CodeValue → List ℕ) → ShowMarks T.dot T.depth tint self.old.band.clip.width
+            self.old.band.clip.first self.old.band.clip.rows [] self.old.band.rows.items }
+        requires clip { self.old.band.clip.regions ≡ [] }
+        requires ink { self.old.ink ≡ opening.ink }
+        requires need { self.old.need ≡ None }
+        requires spellings { AreSpellings bytes.now }
+        requires known { (marks : List MarkValue) → SayMarks (map arc_value images.now) bytes.now marks →
+            All (λ source. Contains (C.sources colours.old) source) (needs_of marks) }
+        requires channels { (marks : List MarkValue) → SayMarks (map arc_value images.now) bytes.now marks →
+            All (HasChannels (C.channels colours.old)) marks }
+        requires free { C.is_busy colours.old ≡ false }
+        ensures shown { (marks : List MarkValue) → SayMarks (map arc_value images.now) bytes.now marks →
+            OnOk result (ShowMarks T.dot T.depth (tint_at T.depth (C.colour colours.old) (C.wide colours.old))
+            self.old.band.clip.width self.old.band.clip.first self.old.band.clip.rows marks self.new.band.rows.items) }
+        ensures clip { OnOk result (self.new.band.clip
+            ≡ record self.old.band.clip { regions = self.new.band.clip.regions }) }
+        ensures lent { (marks : List MarkValue) → SayMarks (map arc_value images.now) bytes.now marks →
+            OnOk result (C.lent colours.new
+            ≡ option_map (λ sources. sources ++ needs_of marks) (C.lent colours.old)) }
+        ensures tries { (marks : List MarkValue) → SayMarks (map arc_value images.now) bytes.now marks →
+            OnOk result (C.tries colours.new ≡ C.tries colours.old + length (needs_of marks)) }
+        ensures few { (marks : List MarkValue) → SayMarks (map arc_value images.now) bytes.now marks →
+            OnErr result (C.tries colours.new ≤ C.tries colours.old + length (needs_of marks)) }
+        ensures free { C.is_busy colours.new ≡ false }
+    {
+        let mut rest = self.run(images, bytes, &Unlinked)?;
+        while let Some(source) = self.need {
+            let loan = colours.lend(alloc, source)?;
+            let ran = self.run(images, rest, &loan);
+            colours.give_back(loan);
+            rest = ran?;
+        }
+        Ok(())
     }
 
     /// Plays on with a loan of the source that is needed, up to the next command that needs another one, or to the end.
@@ -245,16 +287,21 @@ impl<T: Dot> Playing<T> {
             Brief::Clip(clip) => self.band.cut(&clip),
             Brief::Draw(rule) => {
                 let dot = ink_dot(&mut self.memo, self.ink, loan);
-                self.band.draw(self.commands.shapes(), rule, dot)
+                self.band.draw(self.commands.shapes(), rule, dot)?;
+                Ok(())
             }
             Brief::Image(place) => match image_at(images, place) {
-                Some(image) => self.band.picture(image, &mut self.memo, loan),
+                Some(image) => {
+                    self.band.picture(image, &mut self.memo, loan)?;
+                    Ok(())
+                }
                 None => Ok(()),
             },
             Brief::Mask(place) => match image_at(images, place) {
                 Some(image) => {
                     let dot = ink_dot(&mut self.memo, self.ink, loan);
-                    self.band.mask(image, dot)
+                    self.band.mask(image, dot)?;
+                    Ok(())
                 }
                 None => Ok(()),
             },
@@ -263,9 +310,11 @@ impl<T: Dot> Playing<T> {
 
     /// The band's dots in bytes.
     fn finish(&self, alloc: Global, band: u32) -> Mem<BandDots>
-        ensures band { IfOk result (λ dots. dots.band ≡ band) }
-        ensures rows { IfOk result (λ dots. dots.rows ≡ self.now.band.clip.rows) }
-        ensures dots { IfOk result (λ dots. dots.dots ≡ flat_map (flat_map T.bytes) self.now.band.rows.items) }
+        ensures { IfOk result (λ dots. dots ≡ record {
+            band = band;
+            rows = self.now.band.clip.rows;
+            dots = flat_map (flat_map T.bytes) self.now.band.rows.items;
+        }) }
     {
         Ok(BandDots {
             band,
@@ -275,26 +324,26 @@ impl<T: Dot> Playing<T> {
     }
 }
 
-/// The number of a band's first row on the page.
+/// The number of the first row of a band, on a page of so many rows in bands of so many.
 #[tactic(auto, using(crate::proofs::Counts::band_begins))]
-fn first_of(parts: &PageParts, band: u32) -> u32
-    requires rows { 0 < parts.now.band }
-    requires band { band < band_count parts.now.height parts.now.band }
-    ensures value { result ≡ band * parts.now.band }
-    ensures inside { result < parts.now.height }
+fn first_of(height: u32, rows: u32, band: u32) -> u32
+    requires rows { 0 < rows }
+    requires band { band < band_count height rows }
+    ensures value { result ≡ band * rows }
+    ensures inside { result < height }
 {
-    band * parts.band
+    band * rows
 }
 
-/// How many rows a band has.
+/// How many rows a band has, by the number of its first.
 #[tactic(auto, using(crate::proofs::Counts::rows_are))]
-fn count_of(parts: &PageParts, first: u32, band: u32) -> u32
-    requires first { first ≡ band * parts.now.band }
-    requires inside { first < parts.now.height }
-    ensures value { result ≡ rows_of_band parts.now.height parts.now.band band }
+fn count_of(height: u32, rows: u32, first: u32, band: u32) -> u32
+    requires first { first ≡ band * rows }
+    requires inside { first < height }
+    ensures value { result ≡ rows_of_band height rows band }
     ensures numbered { first + result ≤ 2 ^ 32 }
 {
-    parts.band.min(parts.height - first)
+    rows.min(height - first)
 }
 
 /// The image of a place in the page's table.

@@ -1,7 +1,7 @@
 -- A band on its way: what each command of its list does, and what is left. Own rule: all that is painted while one loan
 -- is out goes by that loan.
 use Rattle.std.specs.Prelude.{◌≡◌, ℕ, ◌+◌, ◌<◌, ◌≤◌, ◌==◌, ◌++◌, List, [], ◌∷◌, length, slice_index_or, Bool, true, false}
-use Rattle.std.specs.Prelude.{Option, Some, None, IfSome}
+use Rattle.std.specs.Prelude.{Option, Some, None, IfSome, option_map}
 use Rattle.std.specs.Option.{option_map_or}
 use Rattle.std.specs.List.{AllByRecursion, slice_get, filter_map, dedup_from}
 use Rattle.press_fault.specs.Plane.{CodeValue}
@@ -20,6 +20,7 @@ use Rattle.band_writer.specs.Bands.{mark_source, needs_of}
 use Rattle.band_writer.specs.Listing.{spelled}
 use Rattle.band_writer.specs.Said.{said_mark, image_marks, marks_said}
 use Rattle.list_player.specs.Painting.{later, given_where, AreWide}
+use Rattle.list_player.specs.Playing.{SayMarks}
 
 -- the colour of a linked code at a depth, by a loan's colours of 8 and of 16 bits
 abbrev pub lent_at : Depth → (CodeValue → List ℕ) → (CodeValue → List ℕ) → CodeValue → List ℕ
@@ -164,3 +165,14 @@ pub record HasPlayed {D : Type 0} (dot : List ℕ → D) (depth : Depth) (tint :
 abbrev pub awaited : Option ℕ → ℕ
 awaited None = 0
 awaited (Some source) = 1
+
+-- a list on its way: the marks that it says, what was lent and how often a loan was asked
+pub record IsUnderWay {D : Type 0} (dot : List ℕ → D) (depth : Depth) (tint : ℕ → CodeValue → List ℕ)
+    (images : List ImageValue) (bytes : List ℕ) (lent_before lent_now : Option (List ℕ)) (tries_before tries_now : ℕ)
+    (clip : BandMaskValue) (rows : List (List D)) (ink : Ink) (rest : List ℕ) (need : Option ℕ) : Type 0 where
+  pub whole : List MarkValue
+  pub says : SayMarks images bytes whole
+  pub met : List ℕ
+  pub played : HasPlayed dot depth tint images whole met need clip rows ink rest
+  pub lent : lent_now ≡ option_map (λ (sources : List ℕ). sources ++ met) lent_before
+  pub tries : tries_now ≡ tries_before + length met
