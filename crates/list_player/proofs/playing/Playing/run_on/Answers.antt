@@ -73,4 +73,8 @@ loop-brief-preserved g c =
     }
 
 pub returns-clause-played : goal.returns-clause-played
-returns-clause-played g c = ?
+returns-clause-played g c =
+    let none = rw c.in_default.is at c.in_ok-brief.ensures.none in
+    λ tint whole met goes before. plays_ended g.T.Dot.dot g.T.Dot.depth tint (map arc_value c.args.images.now) whole met
+    c.args.source c.loop-brief.self.need c.loop-brief.self.band.clip c.loop-brief.self.band.rows.items c.loop-brief.self.ink
+    c.loop-brief.rest.now c.loop-brief.invariant.free none (c.loop-brief.invariant.played tint whole met goes before)
