@@ -423,3 +423,7 @@ pub says_of : (images seen : List ImageValue) (bytes read : List ℕ) (marks : L
 says_of images seen bytes read marks same_images same_bytes says =
     subst (λ (is : List ImageValue). SayMarks is bytes marks) same_images
     (subst (λ (b : List ℕ). SayMarks seen b marks) same_bytes says)
+
+-- what was asked just so often was asked no more often
+pub asked_all : (before now count : ℕ) → now ≡ before + count → now ≤ before + count
+asked_all before now count asked = omega (arith, asked)

@@ -1,8 +1,8 @@
-use Rattle.std.proofs.Common.{◌≡◌, ◌∙◌, ap, sym, subst, map, ℕ, rules, arith}
+use Rattle.std.proofs.Common.{◌≡◌, ◌∙◌, ap, sym, subst, map, ℕ, rules}
 use Rattle.std.specs.Arc.{arc_value}
 use Rattle.band_writer.specs.Parts.{AreSpellings}
 use Rattle.list_player.specs.Playing.{tint_at, dots_of}
-use Rattle.list_player.proofs.Lists.{white_band, band_done, says_of, on_err}
+use Rattle.list_player.proofs.Lists.{white_band, band_done, says_of, on_err, asked_all}
 use Rattle.list_player.proofs.playing.play_at.Goals as goal
 
 pub play_list-requires-clause-white : goal.play_list-requires-clause-white
@@ -33,10 +33,9 @@ returns-in_err-play_list-clause-few g c =
 pub returns-in_err-dots-clause-few : goal.returns-in_err-dots-clause-few
 returns-in_err-dots-clause-few g c =
     let same : c.args.parts.now.images ≡ map arc_value c.items.result.now = search rules in
-    λ marks says. on_err _ _ (let asked = c.in_ok-play_list.ensures.tries marks
+    λ marks says. on_err _ _ (asked_all _ _ _ (c.in_ok-play_list.ensures.tries marks
     (says_of (map arc_value c.items.result.now)
-    c.args.parts.now.images c.bytes.result.now c.args.list.now.bytes marks same (sym c.bytes.ensures.value) says) in
-    omega (arith, asked))
+    c.args.parts.now.images c.bytes.result.now c.args.list.now.bytes marks same (sym c.bytes.ensures.value) says)))
 
 pub returns-clause-dots : goal.returns-clause-dots
 returns-clause-dots g c =
