@@ -120,7 +120,7 @@ pub within_range : (spans items : List SpanValue) (width col : ℕ) (holds : ℕ
     HaveJust spans 0 width holds → have_column items col ≡ true → col < width
 within_range spans items width col holds same just has =
     let both = and_parts (is_in 0 width col) (holds col)
-        (sym (just.columns col) ∙ (ap (λ (s : List SpanValue). have_column s col) (sym same) ∙ has)) in
+    (sym (just.columns col) ∙ (ap (λ (s : List SpanValue). have_column s col) (sym same) ∙ has)) in
     let range = and_parts (nat_le 0 col) (nat_lt col width) both.0 in
     ltb-true col width range.1
 
@@ -236,8 +236,10 @@ new_band {D} width first count dot clip rows same is numbered narrow =
     (subst (λ (l : List (List D)). IsBand (record { width = width; first = first; rows = count; regions = [] }) l) (sym is)
     (record {
       size = length-replicate count (replicate width dot);
-      wide = record { each = λ k less. ap (λ (r : List D). length r) (get_or-replicate count k (replicate width dot) []
-          (subst (λ n. k < n) (length-replicate count (replicate width dot)) less)) ∙ length-replicate width dot };
+      wide = record {
+        each = λ k less. ap (λ (r : List D). length r) (get_or-replicate count k (replicate width dot) []
+            (subst (λ n. k < n) (length-replicate count (replicate width dot)) less)) ∙ length-replicate width dot;
+      };
       numbered = numbered;
       narrow = narrow;
     }))

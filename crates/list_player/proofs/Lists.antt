@@ -160,8 +160,8 @@ all_suit : (channels_of : ℕ → ℕ) (lent channels : ℕ) (images : List Imag
 all_suit channels_of lent channels images ink clip [] same all = tt
 all_suit channels_of lent channels images ink clip (cmd ∷ cmds) same all =
     let both = cmd_suits channels_of lent channels images ink clip.regions cmd
-        (marks_said images (ink_after ink cmd) (clip_after clip cmd).regions cmds) same
-        (subst (AllByRecursion (HasChannels channels_of)) (said_more images ink clip cmd cmds) all) in
+    (marks_said images (ink_after ink cmd) (clip_after clip cmd).regions cmds) same
+    (subst (AllByRecursion (HasChannels channels_of)) (said_more images ink clip cmd cmds) all) in
     (both.0, all_suit channels_of lent channels images (ink_after ink cmd) (clip_after clip cmd) cmds same both.1)
 
 all_behind : (P : MarkValue → Type 0) (xs ys : List MarkValue) → AllByRecursion P (xs ++ ys) → AllByRecursion P ys
@@ -205,7 +205,7 @@ pub known_next : (sources met : List ℕ) (whole left : List MarkValue) (s : ℕ
 known_next sources met whole left s need same all needs =
     let first = begins s (filter_map mark_source left) in
     let is : needs_of whole ≡ met ++ (s ∷ first.rest) = needs
-        ∙ (ap (λ (o : Option ℕ). met ++ needs_from o left) same ∙ ap (λ (xs : List ℕ). met ++ xs) first.is) in
+    ∙ (ap (λ (o : Option ℕ). met ++ needs_from o left) same ∙ ap (λ (xs : List ℕ). met ++ xs) first.is) in
     let long : length (met ++ (s ∷ first.rest)) ≡ length met + length (s ∷ first.rest) = length-append met (s ∷ first.rest) in
     subst (Contains sources)
     (get_or-append_right met (s ∷ first.rest) (length met) (length met) s refl (omega arith)
@@ -218,7 +218,7 @@ pub one_more : (met : List ℕ) (whole left : List MarkValue) (s : ℕ) (need : 
 one_more met whole left s need same needs =
     let first = begins s (filter_map mark_source left) in
     let long : length (needs_of whole) ≡ length (met ++ needs_from (Some s) left) =
-        ap length needs ∙ ap (λ (o : Option ℕ). length (met ++ needs_from o left)) same in
+    ap length needs ∙ ap (λ (o : Option ℕ). length (met ++ needs_from o left)) same in
     let parts = length-append met (needs_from (Some s) left) in
     let some : length (needs_from (Some s) left) ≡ length (s ∷ first.rest) = ap length first.is in
     omega (arith, long, parts, some)
@@ -303,15 +303,15 @@ pub further : {D : Type 0} (dot : List ℕ → D) (depth : Depth) (tint : ℕ �
     rest_next need_next
 further {D} dot depth tint images bytes lent_before lent_now lent_next tries_before tries_now tries_next clip clip_next rows
     rows_next ink ink_next rest rest_next s need need_next is way lent tries played = record {
-  whole = way.whole;
-  says = way.says;
-  met = way.met ++ s ∷ [];
-  played = subst (λ (o : Option ℕ). HasPlayed dot depth tint images way.whole (way.met ++ option_to_list o) need_next
-      clip_next rows_next ink_next rest_next) is played;
-  lent = lent ∙ lent_more lent_before lent_now way.met s way.lent;
-  tries = let long : length (way.met ++ s ∷ []) ≡ length way.met + length (s ∷ []) = length-append way.met (s ∷ []) in
-      let so_far = way.tries in omega (arith, long, tries, so_far);
-}
+      whole = way.whole;
+      says = way.says;
+      met = way.met ++ s ∷ [];
+      played = subst (λ (o : Option ℕ). HasPlayed dot depth tint images way.whole (way.met ++ option_to_list o) need_next
+          clip_next rows_next ink_next rest_next) is played;
+      lent = lent ∙ lent_more lent_before lent_now way.met s way.lent;
+      tries = let long : length (way.met ++ s ∷ []) ≡ length way.met + length (s ∷ []) = length-append way.met (s ∷ []) in
+          let so_far = way.tries in omega (arith, long, tries, so_far);
+    }
 
 same_size : {D : Type 0} (dot : List ℕ → D) (depth : Depth) (tint : ℕ → CodeValue → List ℕ) (start clip : BandMaskValue)
     (marks : List MarkValue) (rows : List (List D)) → clip ≡ record start { regions = clip.regions } →
@@ -384,12 +384,15 @@ band_done {D} dot bytes depth colour wide parts band start clip marks rows done 
   where
     dots_with : ℕ → ℕ → List ℕ → BandDotsValue
     dots_with b n text = record { band = b; rows = n; dots = text }
+
     count : clip.rows ≡ rows_of_band parts.height parts.band band
     count = ap (λ (c : BandMaskValue). c.rows) same ∙ ap (λ (c : BandMaskValue). c.rows) begun
+
     here : ShowMarks dot depth (tint_at depth colour wide) parts.width (band * parts.band)
         (rows_of_band parts.height parts.band band) marks rows
     here = subst (λ (c : BandMaskValue). ShowMarks dot depth (tint_at depth colour wide) c.width c.first c.rows marks rows)
         begun shown
+
     text_is : flat_map (flat_map bytes) rows ≡ rows_text depth (tint_at depth colour wide) parts.width (band * parts.band)
         (rows_of_band parts.height parts.band band) marks
     text_is = rows_bytes dot bytes depth (tint_at depth colour wide) parts.width (band * parts.band)

@@ -77,6 +77,7 @@ grown {D} old new dot count len size same less is = whole ∙ sym (ap (λ k. rep
     whole = is ∙ (ap (λ (l : List D). l ++ replicate (count - len) dot)
         (take_all count old (omega (arith, size)) ∙ same)
         ∙ replicate-append-replicate (length old) (count - len) dot)
+
     long : length new ≡ length old + (count - len)
     long = ap (λ (l : List D). length l) whole ∙ length-replicate (length old + (count - len)) dot
 
@@ -112,19 +113,23 @@ run_put {D} old new dots ink first end order within same is = record {
   where
     count : length dots ≡ end - first
     count = ap (λ (l : List D). length l) same ∙ length-replicate (end - first) ink
+
     front : length (take first old) ≡ first
     front = length-take-le first old (omega arith)
+
     size : length (take first old ++ (dots ++ drop (first + length dots) old)) ≡ length old
     size =
         let a = length-append (take first old) (dots ++ drop (first + length dots) old) in
         let b = length-append dots (drop (first + length dots) old) in
         let c = length-drop (first + length dots) old in
         omega (arith, a, b, c, count, front)
+
     before : (col : ℕ) (d : D) → col < first →
         get_or (take first old ++ (dots ++ drop (first + length dots) old)) col d ≡ over (given_where (Some ink) (is_in first end col)) (get_or old col d)
     before col d early = get_or_append_left (take first old) (dots ++ drop (first + length dots) old) d col (omega (arith, front))
         ∙ (get_or-take first old col d early
         ∙ sym (ap (λ b. over (given_where (Some ink) b) (get_or old col d)) (before_range first end col early)))
+
     within_run : (col : ℕ) (d : D) → first ≤ col → col < end →
         get_or (take first old ++ (dots ++ drop (first + length dots) old)) col d ≡ over (given_where (Some ink) (is_in first end col)) (get_or old col d)
     within_run col d late inside = get_or-append_right (take first old) (dots ++ drop (first + length dots) old) first col d front late
@@ -132,6 +137,7 @@ run_put {D} old new dots ink first end order within same is = record {
         ∙ (ap (λ (l : List D). get_or l (col - first) d) same
         ∙ (get_or-replicate (end - first) (col - first) ink d (omega arith)
         ∙ sym (ap (λ b. over (given_where (Some ink) b) (get_or old col d)) (in_range first end col late inside)))))
+
     after : (col : ℕ) (d : D) → end ≤ col →
         get_or (take first old ++ (dots ++ drop (first + length dots) old)) col d ≡ over (given_where (Some ink) (is_in first end col)) (get_or old col d)
     after col d behind = get_or-append_right (take first old) (dots ++ drop (first + length dots) old) first col d front (omega arith)
@@ -140,15 +146,16 @@ run_put {D} old new dots ink first end order within same is = record {
         ∙ (ap (λ n. get_or old n d)
         (let e : (first + length dots) + ((col - first) - (end - first)) ≡ col = omega (arith, count) in e)
         ∙ sym (ap (λ b. over (given_where (Some ink) b) (get_or old col d)) (behind_range first end col behind)))))
+
     put_at : (col : ℕ) (d : D) →
         get_or (take first old ++ (dots ++ drop (first + length dots) old)) col d
         ≡ over (given_where (Some ink) (is_in first end col)) (get_or old col d)
     put_at col d = elim (cases_lt col first) [
       | inl early ↦ before col d early
       | inr late ↦ elim (cases_lt col end) [
-          | inl inside ↦ within_run col d late inside
-          | inr behind ↦ after col d behind
-        ]
+        | inl inside ↦ within_run col d late inside
+        | inr behind ↦ after col d behind
+      ]
     ]
 
 -- a run of the first of a list of one dot
@@ -237,16 +244,16 @@ run_more paint open_at first from end run xs ys zs order some is one other = pai
                 ap (λ t. is_in first run.end col && t) shut ∙ (and_no (is_in first run.end col)
                 ∙ sym (ap (λ t. (t && open_at col) || is_in run.first run.end col) none ∙ b))
             | inr past ↦ elim (cases_lt col run.end) [
-                | inl inside ↦ let b = in_range run.first run.end col past inside in
-                    let a = in_range first run.end col (omega (arith, order)) inside in
-                    let clear = is.inside col past inside in
-                    ap (λ t. t && open_at col) a ∙ (clear
-                    ∙ sym (ap (λ t. (t && open_at col) || is_in run.first run.end col) none ∙ b))
-                | inr behind ↦ let b = behind_range run.first run.end col behind in
-                    let a = behind_range first run.end col behind in
-                    ap (λ t. t && open_at col) a
-                    ∙ sym (ap (λ t. (t && open_at col) || is_in run.first run.end col) none ∙ b)
-              ]
+              | inl inside ↦ let b = in_range run.first run.end col past inside in
+                  let a = in_range first run.end col (omega (arith, order)) inside in
+                  let clear = is.inside col past inside in
+                  ap (λ t. t && open_at col) a ∙ (clear
+                  ∙ sym (ap (λ t. (t && open_at col) || is_in run.first run.end col) none ∙ b))
+              | inr behind ↦ let b = behind_range run.first run.end col behind in
+                  let a = behind_range first run.end col behind in
+                  ap (λ t. t && open_at col) a
+                  ∙ sym (ap (λ t. (t && open_at col) || is_in run.first run.end col) none ∙ b)
+            ]
           ]
     ]
 
@@ -263,11 +270,11 @@ run_last paint open_at first from end xs ys order shut painted = painted_as _ _ 
       | inl early ↦ let a : is_in first from col ≡ is_in first end col = grind (arith, nat_tests) in
           ap (λ t. t && open_at col) a
       | inr late ↦ elim (cases_lt col end) [
-          | inl inside ↦ ap (λ t. t && open_at col) (behind_range first from col late)
-              ∙ sym (ap (λ t. is_in first end col && t) (shut col late inside) ∙ and_no (is_in first end col))
-          | inr behind ↦ ap (λ t. t && open_at col) (behind_range first from col late)
-              ∙ sym (ap (λ t. t && open_at col) (behind_range first end col behind))
-        ]
+        | inl inside ↦ ap (λ t. t && open_at col) (behind_range first from col late)
+            ∙ sym (ap (λ t. is_in first end col && t) (shut col late inside) ∙ and_no (is_in first end col))
+        | inr behind ↦ ap (λ t. t && open_at col) (behind_range first from col late)
+            ∙ sym (ap (λ t. t && open_at col) (behind_range first end col behind))
+      ]
     ]
 
 -- no column of a span is before its first

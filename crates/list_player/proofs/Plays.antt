@@ -242,8 +242,8 @@ stop_needs dot depth tint images whole met source clip rows ink bytes cmd count 
     let left = left_is images ink clip cmd (drop count bytes) played.cmds played.left played.say begins in
     let rest : List MarkValue = marks_said images (ink_after ink cmd) (clip_after clip cmd).regions begins.rest in
     let sources : filter_map mark_source played.left ≡ s ∷ filter_map mark_source rest =
-        ap (filter_map mark_source) left ∙ (sources_more images ink clip.regions cmd rest
-        ∙ ap (λ (o : Option ℕ). cons_option o (filter_map mark_source rest)) (sym need)) in
+    ap (filter_map mark_source) left ∙ (sources_more images ink clip.regions cmd rest
+    ∙ ap (λ (o : Option ℕ). cons_option o (filter_map mark_source rest)) (sym need)) in
     played.needs ∙ (ap (λ (ns : List ℕ). met ++ ns) (needs_are source played.left
     ∙ (ap (needs_list source) sources
     ∙ (other_needs source s (filter_map mark_source rest) other
@@ -282,9 +282,9 @@ pub plays_end : {D : Type 0} (dot : List ℕ → D) (depth : Depth) (tint : ℕ 
 unfolding marks_said
 plays_end dot depth tint images whole met source clip rows ink bytes none played =
     let left : played.left ≡ [] = played.say ∙ ap (marks_said images ink clip.regions)
-        (none_left bytes played.cmds played.commands played.are none) in
+    (none_left bytes played.cmds played.commands played.are none) in
     let nothing : (o : Option ℕ) → needs_from o played.left ≡ needs_list o [] = λ o. needs_are o played.left
-        ∙ ap (λ (l : List MarkValue). needs_list o (filter_map mark_source l)) left in
+    ∙ ap (λ (l : List MarkValue). needs_list o (filter_map mark_source l)) left in
     record {
       played = record {
         shown = played.shown;
@@ -341,7 +341,7 @@ less_stop (Some lent) (Some s) given rest first ink images cmd count (inl same) 
     let need = now cmd count (subst (λ (b : List ℕ). IsFront b cmd count) same.0 front) in
     let own : Some s ≡ Some lent = is ∙ (ap (λ (i : Ink). cmd_source images i cmd) same.1 ∙ need) in
     let served : is_served (Some lent) (Some s) ≡ true =
-        ap (λ (o : Option ℕ). is_served (Some lent) o) own ∙ itself lent in
+    ap (λ (o : Option ℕ). is_served (Some lent) o) own ∙ itself lent in
     absurd (let e : ⊥ = cc in e)
 
 -- at the end no more bytes are left than the loan was given

@@ -89,7 +89,12 @@ impl<T: Dot> Band<T> {
     }
 
     /// Paints the samples of an image, where the clip leaves dots open.
-    pub(crate) fn picture<L: Lent>(&mut self, image: &Image, memo: &mut Memo<T>, loan: &L) -> Mem<()>
+    pub(crate) fn picture<L: Lent>(
+        &mut self,
+        image: &Image,
+        memo: &mut Memo<T>,
+        loan: &L,
+    ) -> Mem<()>
         requires band { IsBand self.old.clip self.old.rows.items }
         requires channels { ImageHasChannels (λ source. L.channels loan.now) image.now.channels image.now.source }
         requires memo { Remembers (lent_dot T.dot T.depth (L.colour loan.now) (L.wide loan.now)) memo.old.told.items }
@@ -101,7 +106,14 @@ impl<T: Dot> Band<T> {
         ensures memo { Remembers (lent_dot T.dot T.depth (L.colour loan.now) (L.wide loan.now)) memo.new.told.items }
     {
         make_room(&mut self.picks, self.clip.width())?;
-        put_image(&mut self.rows, &mut self.picks, image, &self.clip, memo, loan);
+        put_image(
+            &mut self.rows,
+            &mut self.picks,
+            image,
+            &self.clip,
+            memo,
+            loan,
+        );
         Ok(())
     }
 

@@ -119,7 +119,14 @@ fn put_masked<T: Copy>(row: &mut Vec<T>, col: usize, pick: Pick, image: &Image, 
 }
 
 /// Puts an ink over the dots of a row that a mask paints, in the columns from `from` up to and without `to`.
-pub(crate) fn put_mask<T: Copy>(row: &mut Vec<T>, picks: &Vec<Pick>, from: usize, to: usize, image: &Image, dot: T)
+pub(crate) fn put_mask<T: Copy>(
+    row: &mut Vec<T>,
+    picks: &Vec<Pick>,
+    from: usize,
+    to: usize,
+    image: &Image,
+    dot: T,
+)
     requires order { from ≤ to }
     requires within { to ≤ length row.old.items }
     requires picks { to ≤ length picks.now.items }

@@ -125,10 +125,10 @@ impl<T: Dot> Playing<T> {
             ≡ replicate (rows_of_band parts.now.height parts.now.band band)
             (replicate parts.now.width (T.dot (white T.depth)))) }
         ensures clip { IfOk result (λ playing. playing.band.clip ≡ record {
-            width = parts.now.width;
-            first = band * parts.now.band;
-            rows = rows_of_band parts.now.height parts.now.band band;
-            regions = [];
+          width = parts.now.width;
+          first = band * parts.now.band;
+          rows = rows_of_band parts.now.height parts.now.band band;
+          regions = [];
         }) }
         ensures band { IfOk result (λ playing. IsBand playing.band.clip playing.band.rows.items) }
         ensures ink { IfOk result (λ playing. playing.ink ≡ opening.ink) }
@@ -311,9 +311,9 @@ impl<T: Dot> Playing<T> {
     /// The band's dots in bytes.
     fn finish(&self, alloc: Global, band: u32) -> Mem<BandDots>
         ensures { IfOk result (λ dots. dots ≡ record {
-            band = band;
-            rows = self.now.band.clip.rows;
-            dots = flat_map (flat_map T.bytes) self.now.band.rows.items;
+          band = band;
+          rows = self.now.band.clip.rows;
+          dots = flat_map (flat_map T.bytes) self.now.band.rows.items;
         }) }
     {
         Ok(BandDots {

@@ -257,7 +257,15 @@ impl<T: Dot> DotRow<T> {
             (is_in from to col)) self.old self.new }
         ensures memo { Remembers (lent_dot T.dot T.depth (L.colour loan.now) (L.wide loan.now)) memo.new.told.items }
     {
-        put_samples(&mut self.dots, picks, from as usize, to as usize, image, memo, loan);
+        put_samples(
+            &mut self.dots,
+            picks,
+            from as usize,
+            to as usize,
+            image,
+            memo,
+            loan,
+        );
     }
 
     /// Puts the dots of samples over those that a mask leaves open, in the columns before `width`. The row has this
@@ -307,7 +315,14 @@ impl<T: Copy> DotRow<T> {
             (mask_dot dot image.now (picked (slice_index_or picks.now.items col NoSample)))
             (is_in from to col)) self.old self.new }
     {
-        put_mask(&mut self.dots, picks, from as usize, to as usize, image, dot);
+        put_mask(
+            &mut self.dots,
+            picks,
+            from as usize,
+            to as usize,
+            image,
+            dot,
+        );
     }
 
     /// Puts an ink over the dots that a mask's samples paint and another mask leaves open, in the columns before

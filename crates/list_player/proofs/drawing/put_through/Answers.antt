@@ -9,7 +9,7 @@ pub loop-i-preserved : goal.loop-i-preserved
 loop-i-preserved g c =
     let size = c.loop-i.invariant.painted.size in
     let inside : c.loop-i.i < length c.loop-i.rows.items =
-        omega (arith, size, c.requires.band.size, c.loop-i-test.true, c.rows-i-end.ensures) in
+    omega (arith, size, c.requires.band.size, c.loop-i-test.true, c.rows-i-end.ensures) in
     let row = c.index_mut-row.ensures.value ∙ get_or_default c.loop-i.rows.items c.loop-i.i
     c.index_mut-row.result.now [] inside in
     let wide = next_wide c.args.clip.now.width c.args.clip.now.first c.loop-i.i _ c.args.rows.now.items
@@ -30,7 +30,7 @@ pub put_mask-requires-clause-within : goal.put_mask-requires-clause-within
 put_mask-requires-clause-within g c =
     let size = c.loop-i.invariant.painted.size in
     let inside : c.loop-i.i < length c.loop-i.rows.items =
-        omega (arith, size, c.requires.band.size, c.loop-i-test.true, c.rows-i-end.ensures) in
+    omega (arith, size, c.requires.band.size, c.loop-i-test.true, c.rows-i-end.ensures) in
     let row = c.index_mut-row.ensures.value ∙ get_or_default c.loop-i.rows.items c.loop-i.i
     c.index_mut-row.result.now [] inside in
     ap length row

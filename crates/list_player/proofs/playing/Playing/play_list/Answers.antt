@@ -47,9 +47,9 @@ loop-self-preserved g c =
     let tint = tint_at g.T.Dot.depth colour wide in
     let way = c.loop-self.invariant.way in
     let goes = goes_some c.loop-self.self.need c.in-Some.source tint _ c.in-Some.is
-        (goes_by g.T.Dot.depth colour wide c.in-Some.source _ _
-        (c.in_ok-loan.ensures.colour ∙ ap (λ (f : ℕ → CodeValue → List ℕ). f c.in-Some.source) c.loop-self.invariant.colour)
-        (c.in_ok-loan.ensures.wide ∙ ap (λ (f : ℕ → CodeValue → List ℕ). f c.in-Some.source) c.loop-self.invariant.wide)) in
+    (goes_by g.T.Dot.depth colour wide c.in-Some.source _ _
+    (c.in_ok-loan.ensures.colour ∙ ap (λ (f : ℕ → CodeValue → List ℕ). f c.in-Some.source) c.loop-self.invariant.colour)
+    (c.in_ok-loan.ensures.wide ∙ ap (λ (f : ℕ → CodeValue → List ℕ). f c.in-Some.source) c.loop-self.invariant.wide)) in
     record {
       way = further g.T.Dot.dot g.T.Dot.depth tint images c.args.bytes.now _ _ _ _ _ _ _ _ _ _ _ _ _ _ c.in-Some.source
           c.loop-self.self.need c.run-ran.new.self.need c.in-Some.is way

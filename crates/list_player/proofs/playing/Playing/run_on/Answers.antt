@@ -48,8 +48,8 @@ loop-brief-preserved g c =
     let images = map arc_value c.args.images.now in
     let cmd = brief_value c.in-Some.brief c.read.new.self in
     let served : is_served c.args.source (cmd_source images c.loop-brief.self.ink cmd) ≡ true =
-        ap (λ (o : Option ℕ). is_served c.args.source o) (sym (c.source_of-need.ensures c.read.new.self))
-        ∙ (sym c.is_served.ensures ∙ c.if-not-is_served.false) in
+    ap (λ (o : Option ℕ). is_served c.args.source o) (sym (c.source_of-need.ensures c.read.new.self))
+    ∙ (sym c.is_served.ensures ∙ c.if-not-is_served.false) in
     record {
       free = c.in_ok-obey.ensures.need ∙ c.loop-brief.invariant.free;
       band = band_more c.loop-brief.self.band.clip c.obey.new.self.band.clip cmd _ _ _ c.loop-brief.self.band.rows.items
