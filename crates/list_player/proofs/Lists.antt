@@ -1,7 +1,7 @@
 -- A list from its beginning to its end, loan by loan.
 use Rattle.std.proofs.Common.{◌≡◌, ◌∙◌, ap, sym, subst, refl, ℕ, ◌+◌, ◌-◌, ◌<◌, ◌≤◌, Bool, true, false, cond, List, [], ◌∷◌, ◌++◌}
-use Rattle.std.proofs.Common.{length, get_or, replicate, Option, Some, None, arith, append_assoc, ◌*◌}
-use Rattle.std.specs.Prelude.{◌==◌, IfSome, All, Contains, option_map, reverse}
+use Rattle.std.proofs.Common.{length, get_or, replicate, Option, Some, None, arith, append_assoc, ◌*◌, Result, Ok, Err}
+use Rattle.std.specs.Prelude.{◌==◌, IfSome, All, Contains, option_map, OnErr}
 use Rattle.std.specs.Option.{option_map_or, option_to_list}
 use Rattle.std.specs.List.{AllByRecursion, filter_map, flat_map, dedup_from, slice_get}
 use Rattle.std.proofs.lemmas.Bool.{eqb-true}
@@ -397,3 +397,36 @@ band_done {D} dot bytes depth colour wide parts band start clip marks rows done 
         (rows_of_band parts.height parts.band band) marks
     text_is = rows_bytes dot bytes depth (tint_at depth colour wide) parts.width (band * parts.band)
         (rows_of_band parts.height parts.band band) marks rows known here
+
+-- the clip keeps the band's size from one loan to the next
+pub clip_twice : (start old new : BandMaskValue) → new ≡ record old { regions = new.regions } →
+    old ≡ record start { regions = old.regions } → new ≡ record start { regions = new.regions }
+clip_twice start old new is kept = is ∙ ap (λ (c : BandMaskValue). sized c) kept
+  where
+    sized : BandMaskValue → BandMaskValue
+    sized c = record { width = c.width; first = c.first; rows = c.rows; regions = new.regions }
+
+-- what holds in any case holds after a refusal
+pub on_err : {A E : Type 0} (result : Result A E) (P : Type 0) → P → OnErr result P
+on_err (Ok a) P p = tt
+on_err (Err e) P p = p
+
+-- a loan is asked no more often than there are needs
+pub few_more : (before now next : ℕ) (met : List ℕ) (whole marks left : List MarkValue) (s : ℕ) (need : Option ℕ) →
+    need ≡ Some s → next ≡ now + 1 → now ≡ before + length met → needs_of whole ≡ met ++ needs_from need left →
+    whole ≡ marks → next ≤ before + length (needs_of marks)
+few_more before now next met whole marks left s need is asked so_far needs same =
+    let one = one_more met whole left s need is needs in
+    let long = ap (λ (ms : List MarkValue). length (needs_of ms)) same in
+    omega (arith, one, long, asked, so_far)
+
+-- what bytes say, told by equal images and bytes
+pub says_of : (images seen : List ImageValue) (bytes read : List ℕ) (marks : List MarkValue) → seen ≡ images → read ≡ bytes →
+    SayMarks seen read marks → SayMarks images bytes marks
+says_of images seen bytes read marks same_images same_bytes says =
+    subst (λ (is : List ImageValue). SayMarks is bytes marks) same_images
+    (subst (λ (b : List ℕ). SayMarks seen b marks) same_bytes says)
+
+-- what was asked just so often was asked no more often
+pub asked_all : (before now count : ℕ) → now ≡ before + count → now ≤ before + count
+asked_all before now count asked = omega (arith, asked)

@@ -360,3 +360,61 @@ moved_on given rest first ink next cmd count (inl same) front =
     let short = front_shorter rest cmd count front in let long = ap length same.0 in omega (arith, short, long)
 moved_on given rest first ink next cmd count (inr less) front =
     let short = front_shorter rest cmd count front in omega (arith, short, less)
+
+-- the clip keeps the band's size behind a command
+pub clip_more : (start old new : BandMaskValue) (cmd : CmdValue) → new ≡ clip_after old cmd →
+    old ≡ record start { regions = old.regions } → new ≡ record start { regions = new.regions }
+clip_more start old new cmd is kept = is ∙ (clip_kept old cmd
+    ∙ (ap (λ (c : BandMaskValue). sized c (clip_after old cmd).regions) kept
+    ∙ ap (sized start) (sym (ap (λ (c : BandMaskValue). c.regions) is))))
+  where
+    sized : BandMaskValue → List RegionValue → BandMaskValue
+    sized c regions = record { width = c.width; first = c.first; rows = c.rows; regions = regions }
+
+-- the rows are those of the band behind a command
+pub band_more : {D : Type 0} (clip next : BandMaskValue) (cmd : CmdValue) (first n : ℕ) (p : ℕ → ℕ → Option D)
+    (rows news : List (List D)) → next ≡ clip_after clip cmd → IsBand clip rows → ArePainted first n p rows news →
+    IsBand next news
+band_more {D} clip next cmd first n p rows news is band painted =
+    subst (λ (c : BandMaskValue). IsBand c news) (sym is)
+    (band_after clip cmd news (still_band clip first n p rows news band painted))
+
+-- the commands behind one, told by what holds then
+pub servable_more : (source : Option ℕ) (channels : ℕ) (images : List ImageValue) (ink next : Ink) (bytes after : List ℕ)
+    (cmd : CmdValue) (count : ℕ) → next ≡ ink_after ink cmd → after ≡ drop count bytes →
+    AreServable source channels images ink bytes → IsFront bytes cmd count →
+    AreServable source channels images next after
+servable_more source channels images ink next bytes after cmd count holds left all front =
+    subst (λ (i : Ink). AreServable source channels images i after) (sym holds)
+    (subst (λ (b : List ℕ). AreServable source channels images (ink_after ink cmd) b) (sym left)
+    (servable_step source channels images ink bytes cmd count all front))
+
+-- a command that the loan serves was played, told by what holds then
+pub plays_more : {D : Type 0} (dot : List ℕ → D) (depth : Depth) (tint : ℕ → CodeValue → List ℕ)
+    (colour wide : CodeValue → List ℕ) (images : List ImageValue) (whole : List MarkValue) (met : List ℕ)
+    (source : Option ℕ) (clip clip_next : BandMaskValue) (rows news : List (List D)) (ink ink_next : Ink)
+    (bytes after : List ℕ) (cmd : CmdValue) (count : ℕ) → clip_next ≡ clip_after clip cmd → ink_next ≡ ink_after ink cmd →
+    after ≡ drop count bytes → is_served source (cmd_source images ink cmd) ≡ true →
+    GoesBy source tint (lent_at depth colour wide) → IsFront bytes cmd count →
+    ArePainted clip.first clip.rows
+    (marks_dot dot depth (loan_tint depth colour wide) (cmd_marks images ink clip.regions cmd)) rows news →
+    IsPlayed dot depth tint images whole met source clip rows ink bytes →
+    IsPlayed dot depth tint images whole met source clip_next news ink_next after
+plays_more {D} dot depth tint colour wide images whole met source clip clip_next rows news ink ink_next bytes after cmd count
+    cut holds left served goes front painted played =
+    subst (λ (c : BandMaskValue). IsPlayed dot depth tint images whole met source c news ink_next after) (sym cut)
+    (subst (λ (i : Ink). IsPlayed dot depth tint images whole met source (clip_after clip cmd) news i after) (sym holds)
+    (subst (λ (b : List ℕ). IsPlayed dot depth tint images whole met source (clip_after clip cmd) news (ink_after ink cmd) b)
+    (sym left)
+    (plays_step dot depth tint colour wide images whole met source clip rows news ink bytes cmd count served goes front
+    painted played)))
+
+-- no command is left, and no loan is waited for
+pub plays_ended : {D : Type 0} (dot : List ℕ → D) (depth : Depth) (tint : ℕ → CodeValue → List ℕ) (images : List ImageValue)
+    (whole : List MarkValue) (met : List ℕ) (source need : Option ℕ) (clip : BandMaskValue) (rows : List (List D)) (ink : Ink)
+    (bytes : List ℕ) → need ≡ None → HasNoFront bytes →
+    IsPlayed dot depth tint images whole met source clip rows ink bytes →
+    HasPlayed dot depth tint images whole (met ++ option_to_list source) need clip rows ink bytes
+plays_ended {D} dot depth tint images whole met source need clip rows ink bytes free none played =
+    subst (λ (o : Option ℕ). HasPlayed dot depth tint images whole (met ++ option_to_list source) o clip rows ink bytes)
+    (sym free) (plays_end dot depth tint images whole met source clip rows ink bytes none played)

@@ -83,24 +83,49 @@ impl Numbers {
     fn ink(&mut self) -> Ink {
         match self.below(6) {
             0 => Ink::Plain(Code::gray(self.byte())),
-            1 => Ink::Plain(Code { n: 3, c: [self.byte(), self.byte(), self.byte(), 0] }),
-            2 => Ink::Plain(Code { n: 4, c: [self.byte(), self.byte(), self.byte(), self.byte()] }),
-            3 => Ink::Linked { source: 0, code: Code::gray(self.byte()) },
-            _ => Ink::Linked { source: 1, code: Code { n: 3, c: [self.byte(), self.byte(), self.byte(), 0] } },
+            1 => Ink::Plain(Code {
+                n: 3,
+                c: [self.byte(), self.byte(), self.byte(), 0],
+            }),
+            2 => Ink::Plain(Code {
+                n: 4,
+                c: [self.byte(), self.byte(), self.byte(), self.byte()],
+            }),
+            3 => Ink::Linked {
+                source: 0,
+                code: Code::gray(self.byte()),
+            },
+            _ => Ink::Linked {
+                source: 1,
+                code: Code {
+                    n: 3,
+                    c: [self.byte(), self.byte(), self.byte(), 0],
+                },
+            },
         }
     }
 
     fn bytes(&mut self, alloc: Global, count: u32, is_mask: bool) -> Mem<Bytes> {
         let mut bytes = Vec::new(alloc);
         for _byte in 0..count {
-            let byte = if is_mask { (self.below(2) * 255) as u8 } else { (self.below(8) * 31) as u8 };
+            let byte = if is_mask {
+                (self.below(2) * 255) as u8
+            } else {
+                (self.below(8) * 31) as u8
+            };
             bytes.push(byte)?;
         }
         Ok(Bytes::from_vec(bytes))
     }
 
     /// An image of 3 columns and 2 rows of samples, turned and shifted.
-    fn image(&mut self, alloc: Global, channels: u8, source: Option<u32>, is_mask: bool) -> Mem<Arc<Image>> {
+    fn image(
+        &mut self,
+        alloc: Global,
+        channels: u8,
+        source: Option<u32>,
+        is_mask: bool,
+    ) -> Mem<Arc<Image>> {
         let codes = self.bytes(alloc, 6 * u32::from(channels), is_mask)?;
         let map = ImageMap {
             a: Wide::of(1 + i64::from(self.below(3))),
@@ -137,7 +162,10 @@ impl Numbers {
     }
 
     fn region(&mut self, alloc: Global) -> Mem<Region> {
-        Ok(Region { rule: self.rule(), rings: Arc::new(alloc, self.rings(alloc)?)? })
+        Ok(Region {
+            rule: self.rule(),
+            rings: Arc::new(alloc, self.rings(alloc)?)?,
+        })
     }
 
     fn mark(&mut self, alloc: Global, clips: &[Arc<Clip>]) -> Mem<Mark> {
@@ -181,6 +209,11 @@ impl Numbers {
         for _mark in 0..count {
             marks.push(self.mark(alloc, &clips)?)?;
         }
-        Ok(Page { width: 40, height: 70, sources: 2, marks })
+        Ok(Page {
+            width: 40,
+            height: 70,
+            sources: 2,
+            marks,
+        })
     }
 }

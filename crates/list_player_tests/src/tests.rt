@@ -23,7 +23,11 @@ fn drawn(alloc: Global, page: &Page, rows: u32, depth: Depth) -> Mem<Option<Vec<
 
 /// The dots of a band, where it lends what it needs and no more.
 fn band_dots(alloc: Global, lists: &BandLists, band: u32) -> Mem<Option<Vec<u8>>> {
-    let mut palette = Palette { lent: Vec::new(alloc), tries: 0, is_busy: false };
+    let mut palette = Palette {
+        lent: Vec::new(alloc),
+        tries: 0,
+        is_busy: false,
+    };
     let dots = play(alloc, lists.list(band), lists.parts(), &mut palette)?;
     if palette.is_busy || palette.lent.as_slice() != lists.needs(band) || dots.band != band {
         return Ok(None);
