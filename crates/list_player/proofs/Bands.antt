@@ -183,7 +183,8 @@ pub unclipped : {D : Type 0} (ink : Option D) (regions : List RegionValue) (numb
     (xs ys : List D) → regions ≡ [] → IsPainted (λ col. given_where ink (have_column spans col)) xs ys →
     IsPainted (λ col. given_where ink (have_column spans col && is_open regions number col)) xs ys
 unclipped {D} ink regions number spans xs ys none painted =
-    subst (λ (rs : List RegionValue). IsPainted (λ col. given_where ink (have_column spans col && is_open rs number col))
+    subst (λ (rs : List RegionValue). IsPainted (λ col. given_where ink (have_column spans col && is_open rs number
+    col))
     xs ys) (sym none)
     (painted_as _ _ xs ys (λ col less. ap (given_where ink) (sym (and_true (have_column spans col)))) painted)
   where
@@ -217,11 +218,13 @@ sampled_here {D} paint holds image number width picks row old new have long wide
 
 -- a row that is painted by the samples of its dots
 pub sampled_row : {D : Type 0} (paint : Option ℕ → Option D) (holds : ℕ → ℕ → Bool) (image : ImageValue)
-    (number picked_at put_at width : ℕ) (picks : List Pick) (row old new : List D) → picked_at ≡ number → put_at ≡ number →
+    (number picked_at put_at width : ℕ) (picks : List Pick) (row old new : List D) → picked_at ≡ number → put_at ≡
+    number →
     HaveSamples image picked_at 0 picks → length picks ≡ width → length row ≡ width → old ≡ row →
     IsPainted (λ col. given_where (paint (picked (get_or picks col Outside))) (holds put_at col)) old new →
     IsPainted (λ col. given_where (paint (sample_at image number col)) (holds number col)) row new
-sampled_row {D} paint holds image number picked_at put_at width picks row old new picks_here puts_here have long wide was painted =
+sampled_row {D} paint holds image number picked_at put_at width picks row old new picks_here puts_here have long wide
+    was painted =
     sampled_here paint (holds number) image number width picks row old new
     (subst (λ n. HaveSamples image n 0 picks) picks_here have) long wide was
     (subst (λ n. IsPainted (λ col. given_where (paint (picked (get_or picks col Outside))) (holds n col)) old new)
@@ -233,7 +236,8 @@ pub new_band : {D : Type 0} (width first count : ℕ) (dot : D) (clip : BandMask
     rows ≡ replicate count (replicate width dot) → first + count ≤ 2 ^ 32 → width < 2 ^ 32 → IsBand clip rows
 new_band {D} width first count dot clip rows same is numbered narrow =
     subst (λ (c : BandMaskValue). IsBand c rows) (sym same)
-    (subst (λ (l : List (List D)). IsBand (record { width = width; first = first; rows = count; regions = [] }) l) (sym is)
+    (subst (λ (l : List (List D)). IsBand (record { width = width; first = first; rows = count; regions = [] }) l) (sym
+    is)
     (record {
       size = length-replicate count (replicate width dot);
       wide = record {

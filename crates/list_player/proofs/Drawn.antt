@@ -1,5 +1,6 @@
 -- Dots of marks, and of one mark more.
-use Rattle.std.proofs.Common.{◌≡◌, ◌∙◌, ap, sym, subst, refl, arith, append_assoc, ℕ, suc, ◌+◌, ◌<◌, Bool, true, false, cond, ◌&&◌}
+use Rattle.std.proofs.Common.{◌≡◌, ◌∙◌, ap, sym, subst, refl, arith, append_assoc, ℕ, suc, ◌+◌, ◌<◌, Bool, true}
+use Rattle.std.proofs.Common.{false, cond, ◌&&◌}
 use Rattle.std.proofs.Common.{◌||◌, List, [], ◌∷◌, ◌++◌, length, get_or, replicate, reverse, Option, Some, None}
 use Rattle.std.proofs.lemmas.List.{append-nil, reverse-append, get_or-replicate, length-replicate, get_or_default}
 use Rattle.std.specs.List.{find, list_any, list_all, flat_map, range_with_len}
@@ -21,7 +22,8 @@ use Rattle.list_player.proofs.Bands.{still_wide}
 
 last_found : {D : Type 0} (dot : List ℕ → D) (f : MarkValue → List ℕ) (b : Bool) (mark : MarkValue)
     (o : Option MarkValue) (w : List ℕ) →
-    over (given_where (Some (dot (f mark))) b) (dot (option_map_or f o w)) ≡ dot (option_map_or f (cond b (Some mark) o) w)
+    over (given_where (Some (dot (f mark))) b) (dot (option_map_or f o w)) ≡ dot (option_map_or f (cond b (Some mark)
+    o) w)
 last_found dot f true mark o w = refl
 last_found dot f false mark o w = refl
 
@@ -32,7 +34,8 @@ pub dot_more : {D : Type 0} (dot : List ℕ → D) (depth : Depth) (tint : ℕ �
     ≡ dot (dot_rgb depth tint (marks ++ mark ∷ []) row col)
 unfolding dot_rgb
 dot_more dot depth tint marks mark row col =
-    last_found dot (mark_rgb depth tint row col) (covers_dot row col mark) mark (find (covers_dot row col) (reverse marks))
+    last_found dot (mark_rgb depth tint row col) (covers_dot row col mark) mark (find (covers_dot row col) (reverse
+    marks))
     (white depth)
     ∙ sym (ap (λ (ms : List MarkValue). dot (option_map_or (mark_rgb depth tint row col) (find (covers_dot row col) ms)
     (white depth))) (reverse-append marks (mark ∷ [])))
@@ -42,7 +45,8 @@ dot_all : {D : Type 0} (dot : List ℕ → D) (depth : Depth) (tint : ℕ → Co
     (row col : ℕ) →
     over (marks_dot dot depth tint more row col) (dot (dot_rgb depth tint shown row col))
     ≡ dot (dot_rgb depth tint (shown ++ more) row col)
-dot_all dot depth tint shown [] row col = ap (λ (ms : List MarkValue). dot (dot_rgb depth tint ms row col)) (sym (append-nil shown))
+dot_all dot depth tint shown [] row col = ap (λ (ms : List MarkValue). dot (dot_rgb depth tint ms row col)) (sym
+    (append-nil shown))
 dot_all dot depth tint shown (mark ∷ more) row col =
     sym (over_later (mark_dot dot depth tint mark row col) (marks_dot dot depth tint more row col)
     (dot (dot_rgb depth tint shown row col)))
@@ -116,7 +120,8 @@ joined f g (x ∷ xs) first same =
     ap (λ (l : List ℕ). l ++ flat_map f xs) (same 0 x (omega arith)
     ∙ ap g (let e : first + 0 ≡ first = omega arith in e))
     ∙ ap (λ (l : List ℕ). g first ++ l) (joined f g xs (first + 1)
-    (λ k d less. same (suc k) d (omega (arith, less)) ∙ ap g (let e : first + suc k ≡ (first + 1) + k = omega arith in e)))
+    (λ k d less. same (suc k) d (omega (arith, less)) ∙ ap g (let e : first + suc k ≡ (first + 1) + k = omega arith in
+    e)))
 
 -- the bytes of a row that shows marks
 row_bytes : {D : Type 0} (dot : List ℕ → D) (bytes : D → List ℕ) (depth : Depth) (tint : ℕ → CodeValue → List ℕ)

@@ -1,5 +1,6 @@
 -- A list from its beginning to its end, loan by loan.
-use Rattle.std.proofs.Common.{◌≡◌, ◌∙◌, ap, sym, subst, refl, ℕ, ◌+◌, ◌-◌, ◌<◌, ◌≤◌, Bool, true, false, cond, List, [], ◌∷◌, ◌++◌}
+use Rattle.std.proofs.Common.{◌≡◌, ◌∙◌, ap, sym, subst, refl, ℕ, ◌+◌, ◌-◌, ◌<◌, ◌≤◌, Bool, true, false, cond, List}
+use Rattle.std.proofs.Common.{[], ◌∷◌, ◌++◌}
 use Rattle.std.proofs.Common.{length, get_or, replicate, Option, Some, None, arith, append_assoc, ◌*◌, Result, Ok, Err}
 use Rattle.std.specs.Prelude.{◌==◌, IfSome, All, Contains, option_map, OnErr}
 use Rattle.std.specs.Option.{option_map_or, option_to_list}
@@ -27,13 +28,15 @@ use Rattle.band_writer.specs.Parts.{AreSpellings, PagePartsValue}
 use Rattle.band_writer.specs.Said.{said_mark, image_marks, marks_said, list_marks}
 use Rattle.list_player.specs.Playing.{SayMarks, tint_at, BandDotsValue, dots_of}
 use Rattle.list_player.specs.Code.Steps.{lent_at, ShowMarks, ink_after, clip_after, cmd_marks, cmd_source, is_served}
-use Rattle.list_player.specs.Code.Steps.{CmdHasChannels, AllSuit, AreServable, GoesBy, needs_from, NeedsNow, IsPlayed, HasPlayed}
+use Rattle.list_player.specs.Code.Steps.{CmdHasChannels, AllSuit, AreServable, GoesBy, needs_from, NeedsNow, IsPlayed}
+use Rattle.list_player.specs.Code.Steps.{HasPlayed}
 use Rattle.list_player.specs.Code.Steps.{IsUnderWay}
 use Rattle.list_player.proofs.Drawn.{shows_none, rows_bytes}
 use Rattle.list_player.proofs.Plays.{cmd_long, said_more}
 
 -- one list of commands at most has a spelling
-one_spelling : (xs ys : List CmdValue) → AllByRecursion IsCmd xs → AllByRecursion IsCmd ys → spelled xs ≡ spelled ys → xs ≡ ys
+one_spelling : (xs ys : List CmdValue) → AllByRecursion IsCmd xs → AllByRecursion IsCmd ys → spelled xs ≡ spelled ys →
+    xs ≡ ys
 unfolding spelled
 one_spelling [] [] fits_xs fits_ys same = refl
 one_spelling [] (b ∷ ys) fits_xs fits_ys same =
@@ -44,7 +47,8 @@ one_spelling (a ∷ xs) [] fits_xs fits_ys same =
     absurd (let e : ⊥ = omega (arith, long, length-append (cmd_bytes a) (spelled xs), cmd_long a) in e)
 one_spelling (a ∷ xs) (b ∷ ys) fits_xs fits_ys same =
     let one = one_front a b (spelled xs) (spelled ys) fits_xs.0 fits_ys.0 same in
-    ap (λ (c : CmdValue). c ∷ xs) one.0 ∙ ap (λ (cs : List CmdValue). b ∷ cs) (one_spelling xs ys fits_xs.1 fits_ys.1 one.1)
+    ap (λ (c : CmdValue). c ∷ xs) one.0 ∙ ap (λ (cs : List CmdValue). b ∷ cs) (one_spelling xs ys fits_xs.1 fits_ys.1
+    one.1)
 
 -- bytes say one list of marks at most
 pub said_once : (images : List ImageValue) (bytes : List ℕ) (a b : List MarkValue) → SayMarks images bytes a →
@@ -85,23 +89,29 @@ cmd_unlinked channels images ink (Inked other) served = tt
 cmd_unlinked channels images ink (Clipped other) served = tt
 cmd_unlinked channels images ink (Drawn rule shapes) served = ink_unlinked channels ink served
 cmd_unlinked channels images ink (Shown place) served = shown_unlinked channels (slice_get images place) served
-cmd_unlinked channels images ink (ShownThrough place) served = masked_unlinked channels ink (slice_get images place) served
+cmd_unlinked channels images ink (ShownThrough place) served = masked_unlinked channels ink (slice_get images place)
+    served
 
 all_unlinked : (channels : ℕ) (images : List ImageValue) (ink : Ink) (cmds : List CmdValue) →
     AllSuit None channels images ink cmds
 all_unlinked channels images ink [] = tt
-all_unlinked channels images ink (cmd ∷ cmds) =
-    (λ served. cmd_unlinked (λ k. channels) images ink cmd served, all_unlinked channels images (ink_after ink cmd) cmds)
+all_unlinked channels images ink (cmd ∷ cmds) = (
+  λ served. cmd_unlinked (λ k. channels) images ink cmd served,
+  all_unlinked channels images (ink_after ink cmd)
+      cmds,
+)
 
 -- before the first loan any list is servable
-pub servable_unlinked : (o : Option ℕ) (channels : ℕ) (images : List ImageValue) (ink : Ink) (bytes : List ℕ) → o ≡ None →
+pub servable_unlinked : (o : Option ℕ) (channels : ℕ) (images : List ImageValue) (ink : Ink) (bytes : List ℕ) → o ≡
+    None →
     AreSpellings bytes → AreServable o channels images ink bytes
 servable_unlinked o channels images ink bytes none s =
     subst (λ (p : Option ℕ). AreServable p channels images ink bytes) (sym none)
     (record { cmds = s.cmds; commands = s.commands; are = s.are; suit = all_unlinked channels images ink s.cmds })
 
 -- where no loan is out no command waits
-pub none_waits : (o : Option ℕ) (images : List ImageValue) (ink : Ink) (bytes : List ℕ) → o ≡ None → NeedsNow images ink bytes o
+pub none_waits : (o : Option ℕ) (images : List ImageValue) (ink : Ink) (bytes : List ℕ) → o ≡ None → NeedsNow images
+    ink bytes o
 none_waits None images ink bytes none = tt
 none_waits (Some s) images ink bytes none = absurd cc
 
@@ -139,7 +149,8 @@ masked_pair channels_of lent channels regions ink None rest same all = (λ serve
 masked_pair channels_of lent channels regions ink (Some image) rest same all =
     (λ served. ink_suits channels_of lent channels ink same served all.0, all.1)
 
-cmd_suits : (channels_of : ℕ → ℕ) (lent channels : ℕ) (images : List ImageValue) (ink : Ink) (regions : List RegionValue)
+cmd_suits : (channels_of : ℕ → ℕ) (lent channels : ℕ) (images : List ImageValue) (ink : Ink) (regions : List
+    RegionValue)
     (cmd : CmdValue) (rest : List MarkValue) → channels ≡ channels_of lent →
     AllByRecursion (HasChannels channels_of) (cmd_marks images ink regions cmd ++ rest) →
     (is_served (Some lent) (cmd_source images ink cmd) ≡ true → CmdHasChannels (λ k. channels) images ink cmd)
@@ -169,7 +180,8 @@ all_behind P [] ys all = all
 all_behind P (x ∷ xs) ys all = all_behind P xs ys all.1
 
 -- what is left is servable by a loan whose codes have the channels of its source
-pub servable_of : {D : Type 0} (dot : List ℕ → D) (depth : Depth) (tint : ℕ → CodeValue → List ℕ) (images : List ImageValue)
+pub servable_of : {D : Type 0} (dot : List ℕ → D) (depth : Depth) (tint : ℕ → CodeValue → List ℕ) (images : List
+    ImageValue)
     (whole : List MarkValue) (met : List ℕ) (s : ℕ) (need : Option ℕ) (clip : BandMaskValue) (rows : List (List D))
     (ink : Ink) (rest : List ℕ) (channels_of : ℕ → ℕ) (channels : ℕ) → need ≡ Some s → channels ≡ channels_of s →
     All (HasChannels channels_of) whole → IsPlayed dot depth tint images whole met need clip rows ink rest →
@@ -182,7 +194,8 @@ servable_of dot depth tint images whole met s need clip rows ink rest channels_o
       suit = all_suit channels_of s channels images ink clip played.cmds same
           (subst (AllByRecursion (HasChannels channels_of)) played.say
           (all_behind (HasChannels channels_of) played.shown played.left
-          (subst (AllByRecursion (HasChannels channels_of)) played.parts (recursion_from_All (HasChannels channels_of) whole all))));
+          (subst (AllByRecursion (HasChannels channels_of)) played.parts (recursion_from_All (HasChannels channels_of)
+          whole all))));
     })
 
 -- sources of which the first is known
@@ -206,7 +219,8 @@ known_next sources met whole left s need same all needs =
     let first = begins s (filter_map mark_source left) in
     let is : needs_of whole ≡ met ++ (s ∷ first.rest) = needs
     ∙ (ap (λ (o : Option ℕ). met ++ needs_from o left) same ∙ ap (λ (xs : List ℕ). met ++ xs) first.is) in
-    let long : length (met ++ (s ∷ first.rest)) ≡ length met + length (s ∷ first.rest) = length-append met (s ∷ first.rest) in
+    let long : length (met ++ (s ∷ first.rest)) ≡ length met + length (s ∷ first.rest) = length-append met (s ∷
+    first.rest) in
     subst (Contains sources)
     (get_or-append_right met (s ∷ first.rest) (length met) (length met) s refl (omega arith)
     ∙ ap (λ n. get_or (s ∷ first.rest) n s) (let e : length met - length met ≡ 0 = omega arith in e))
@@ -237,7 +251,8 @@ pub opened : {D : Type 0} (dot : List ℕ → D) (depth : Depth) (tint : ℕ →
     ShowMarks dot depth tint clip.width clip.first clip.rows [] rows →
     IsPlayed dot depth tint images (list_marks images s.cmds) [] o clip rows ink bytes
 opened {D} dot depth tint images bytes s o clip rows ink no_loan none gray show =
-    subst (λ (p : Option ℕ). IsPlayed dot depth tint images (list_marks images s.cmds) [] p clip rows ink bytes) (sym no_loan)
+    subst (λ (p : Option ℕ). IsPlayed dot depth tint images (list_marks images s.cmds) [] p clip rows ink bytes) (sym
+    no_loan)
     (record {
       shown = [];
       left = list_marks images s.cmds;
@@ -256,7 +271,8 @@ lent_none None = refl
 lent_none (Some sources) = ap (λ (xs : List ℕ). Some xs) (sym (append-nil sources))
 
 -- a list before the first loan
-pub under_way : {D : Type 0} (dot : List ℕ → D) (depth : Depth) (tint : ℕ → CodeValue → List ℕ) (images : List ImageValue)
+pub under_way : {D : Type 0} (dot : List ℕ → D) (depth : Depth) (tint : ℕ → CodeValue → List ℕ) (images : List
+    ImageValue)
     (bytes : List ℕ) (lent : Option (List ℕ)) (tries : ℕ) (clip : BandMaskValue) (rows : List (List D)) (ink : Ink)
     (rest : List ℕ) (o need : Option ℕ) (whole : List MarkValue) → o ≡ None → SayMarks images bytes whole →
     HasPlayed dot depth tint images whole ([] ++ option_to_list o) need clip rows ink rest →
@@ -265,7 +281,8 @@ under_way {D} dot depth tint images bytes lent tries clip rows ink rest o need w
   whole = whole;
   says = says;
   met = [];
-  played = subst (λ (p : Option ℕ). HasPlayed dot depth tint images whole ([] ++ option_to_list p) need clip rows ink rest)
+  played = subst (λ (p : Option ℕ). HasPlayed dot depth tint images whole ([] ++ option_to_list p) need clip rows ink
+      rest)
       none played;
   lent = lent_none lent;
   tries = omega arith;
@@ -301,15 +318,18 @@ pub further : {D : Type 0} (dot : List ℕ → D) (depth : Depth) (tint : ℕ �
     rest_next →
     IsUnderWay dot depth tint images bytes lent_before lent_next tries_before tries_next clip_next rows_next ink_next
     rest_next need_next
-further {D} dot depth tint images bytes lent_before lent_now lent_next tries_before tries_now tries_next clip clip_next rows
+further {D} dot depth tint images bytes lent_before lent_now lent_next tries_before tries_now tries_next clip clip_next
+    rows
     rows_next ink ink_next rest rest_next s need need_next is way lent tries played = record {
       whole = way.whole;
       says = way.says;
       met = way.met ++ s ∷ [];
-      played = subst (λ (o : Option ℕ). HasPlayed dot depth tint images way.whole (way.met ++ option_to_list o) need_next
+      played = subst (λ (o : Option ℕ). HasPlayed dot depth tint images way.whole (way.met ++ option_to_list o)
+          need_next
           clip_next rows_next ink_next rest_next) is played;
       lent = lent ∙ lent_more lent_before lent_now way.met s way.lent;
-      tries = let long : length (way.met ++ s ∷ []) ≡ length way.met + length (s ∷ []) = length-append way.met (s ∷ []) in
+      tries = let long : length (way.met ++ s ∷ []) ≡ length way.met + length (s ∷ []) = length-append way.met (s ∷ [])
+          in
           let so_far = way.tries in omega (arith, long, tries, so_far);
     }
 
@@ -321,13 +341,15 @@ same_size {D} dot depth tint start clip marks rows same show =
     subst (λ (c : BandMaskValue). ShowMarks dot depth tint c.width c.first c.rows marks rows) same show
 
 -- a list that was played to its end shows all its marks
-pub ended_shown : {D : Type 0} (dot : List ℕ → D) (depth : Depth) (tint : ℕ → CodeValue → List ℕ) (images : List ImageValue)
+pub ended_shown : {D : Type 0} (dot : List ℕ → D) (depth : Depth) (tint : ℕ → CodeValue → List ℕ) (images : List
+    ImageValue)
     (bytes : List ℕ) (lent_before lent_now : Option (List ℕ)) (tries_before tries_now : ℕ) (start clip : BandMaskValue)
     (rows : List (List D)) (ink : Ink) (rest : List ℕ) (need : Option ℕ) (marks : List MarkValue) → need ≡ None →
     clip ≡ record start { regions = clip.regions } → SayMarks images bytes marks →
     IsUnderWay dot depth tint images bytes lent_before lent_now tries_before tries_now clip rows ink rest need →
     ShowMarks dot depth tint start.width start.first start.rows marks rows
-ended_shown {D} dot depth tint images bytes lent_before lent_now tries_before tries_now start clip rows ink rest need marks none
+ended_shown {D} dot depth tint images bytes lent_before lent_now tries_before tries_now start clip rows ink rest need
+    marks none
     same says way =
     same_size dot depth tint start clip marks rows same
     (subst (λ (ms : List MarkValue). ShowMarks dot depth tint clip.width clip.first clip.rows ms rows)
@@ -336,19 +358,22 @@ ended_shown {D} dot depth tint images bytes lent_before lent_now tries_before tr
     way.played.played.show)
 
 -- a list that was played to its end met all its needs
-pub ended_met : {D : Type 0} (dot : List ℕ → D) (depth : Depth) (tint : ℕ → CodeValue → List ℕ) (images : List ImageValue)
+pub ended_met : {D : Type 0} (dot : List ℕ → D) (depth : Depth) (tint : ℕ → CodeValue → List ℕ) (images : List
+    ImageValue)
     (bytes : List ℕ) (lent_before lent_now : Option (List ℕ)) (tries_before tries_now : ℕ) (clip : BandMaskValue)
     (rows : List (List D)) (ink : Ink) (rest : List ℕ) (need : Option ℕ) (marks : List MarkValue) → need ≡ None →
     SayMarks images bytes marks →
     (way : IsUnderWay dot depth tint images bytes lent_before lent_now tries_before tries_now clip rows ink rest need) →
     way.met ≡ needs_of marks
-ended_met dot depth tint images bytes lent_before lent_now tries_before tries_now clip rows ink rest need marks none says way =
+ended_met dot depth tint images bytes lent_before lent_now tries_before tries_now clip rows ink rest need marks none
+    says way =
     sym (all_met way.met way.whole way.played.played.left (way.played.ended none) (way.played.played.needs
     ∙ ap (λ (o : Option ℕ). way.met ++ needs_from o way.played.played.left) none))
     ∙ ap needs_of (said_once images bytes way.whole marks way.says says)
 
 -- the colours of a loan are those of its source, at either depth
-pub goes_by : (depth : Depth) (colour wide : ℕ → CodeValue → List ℕ) (s : ℕ) (lent_colour lent_wide : CodeValue → List ℕ) →
+pub goes_by : (depth : Depth) (colour wide : ℕ → CodeValue → List ℕ) (s : ℕ) (lent_colour lent_wide : CodeValue → List
+    ℕ) →
     lent_colour ≡ colour s → lent_wide ≡ wide s → lent_at depth lent_colour lent_wide ≡ tint_at depth colour wide s
 goes_by Eight colour wide s lent_colour lent_wide narrow broad = narrow
 goes_by Sixteen colour wide s lent_colour lent_wide narrow broad = broad
@@ -363,7 +388,8 @@ white_band {D} dot depth width first count clip rows same is tint =
     (shows_none dot depth tint width first count (dot (white depth)) rows refl is)
 
 -- the dots of a band whose marks are shown
-pub band_done : {D : Type 0} (dot : List ℕ → D) (bytes : D → List ℕ) (depth : Depth) (colour wide : ℕ → CodeValue → List ℕ)
+pub band_done : {D : Type 0} (dot : List ℕ → D) (bytes : D → List ℕ) (depth : Depth) (colour wide : ℕ → CodeValue →
+    List ℕ)
     (parts : PagePartsValue) (band : ℕ) (start clip : BandMaskValue) (marks : List MarkValue) (rows : List (List D))
     (done : BandDotsValue) → ((c : List ℕ) → bytes (dot c) ≡ dot_bytes depth c) → parts.depth ≡ depth →
     start ≡ record {
@@ -390,10 +416,12 @@ band_done {D} dot bytes depth colour wide parts band start clip marks rows done 
 
     here : ShowMarks dot depth (tint_at depth colour wide) parts.width (band * parts.band)
         (rows_of_band parts.height parts.band band) marks rows
-    here = subst (λ (c : BandMaskValue). ShowMarks dot depth (tint_at depth colour wide) c.width c.first c.rows marks rows)
+    here = subst (λ (c : BandMaskValue). ShowMarks dot depth (tint_at depth colour wide) c.width c.first c.rows marks
+        rows)
         begun shown
 
-    text_is : flat_map (flat_map bytes) rows ≡ rows_text depth (tint_at depth colour wide) parts.width (band * parts.band)
+    text_is : flat_map (flat_map bytes) rows ≡ rows_text depth (tint_at depth colour wide) parts.width (band *
+        parts.band)
         (rows_of_band parts.height parts.band band) marks
     text_is = rows_bytes dot bytes depth (tint_at depth colour wide) parts.width (band * parts.band)
         (rows_of_band parts.height parts.band band) marks rows known here
@@ -421,7 +449,8 @@ few_more before now next met whole marks left s need is asked so_far needs same 
     omega (arith, one, long, asked, so_far)
 
 -- what bytes say, told by equal images and bytes
-pub says_of : (images seen : List ImageValue) (bytes read : List ℕ) (marks : List MarkValue) → seen ≡ images → read ≡ bytes →
+pub says_of : (images seen : List ImageValue) (bytes read : List ℕ) (marks : List MarkValue) → seen ≡ images → read ≡
+    bytes →
     SayMarks seen read marks → SayMarks images bytes marks
 says_of images seen bytes read marks same_images same_bytes says =
     subst (λ (is : List ImageValue). SayMarks is bytes marks) same_images

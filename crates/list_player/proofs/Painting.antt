@@ -1,6 +1,7 @@
 -- Rows of dots after paints.
 use Rattle.std.proofs.Common.{◌≡◌, ◌∙◌, ap, sym, subst, refl, inl, inr, ◌⊎◌, ℕ, ◌+◌, ◌-◌, ◌<◌, ◌≤◌, Bool, true, false}
-use Rattle.std.proofs.Common.{◌&&◌, ◌||◌, List, [], ◌∷◌, ◌++◌, length, get_or, take, drop, replicate, set, Option, Some, None}
+use Rattle.std.proofs.Common.{◌&&◌, ◌||◌, List, [], ◌∷◌, ◌++◌, length, get_or, take, drop, replicate, set, Option}
+use Rattle.std.proofs.Common.{Some, None}
 use Rattle.std.proofs.Common.{arith}
 use Rattle.std.proofs.lemmas.Bool.{cases_lt, cases_eq}
 use Rattle.std.proofs.lemmas.Bool.Decides.{nat_tests}
@@ -22,7 +23,8 @@ before_range from to col less = grind (arith, nat_tests)
 behind_range : (from to col : ℕ) → to ≤ col → is_in from to col ≡ false
 behind_range from to col more = grind (arith, nat_tests)
 
-pub over_later : {D : Type 0} (first second : Option D) (x : D) → over second (over first x) ≡ over (later first second) x
+pub over_later : {D : Type 0} (first second : Option D) (x : D) → over second (over first x) ≡ over (later first
+    second) x
 over_later first None x = refl
 over_later first (Some y) x = refl
 
@@ -33,7 +35,8 @@ painted_twice {D} p q r xs ys zs same one other = record {
   size = other.size ∙ one.size;
   dots = λ col d less. other.dots col d (subst (λ n. col < n) (sym one.size) less)
       ∙ (ap (over (q col)) (one.dots col d less)
-      ∙ (over_later (p col) (q col) (get_or xs col d) ∙ sym (ap (λ (o : Option D). over o (get_or xs col d)) (same col))));
+      ∙ (over_later (p col) (q col) (get_or xs col d) ∙ sym (ap (λ (o : Option D). over o (get_or xs col d)) (same
+      col))));
 }
 
 -- the same paint, told in another way
@@ -96,7 +99,8 @@ pub listed : {D : Type 0} (len first : ℕ) (items slice ws dots : List D) → s
     first + length dots ≤ length items → ws ≡ take first slice ++ (dots ++ drop (first + length dots) slice) →
     take len (ws ++ drop (length ws) items) ≡ take first items ++ (dots ++ drop (first + length dots) items)
 listed {D} len first items slice ws dots same size within is =
-    take_at ws (drop (length ws) items) len (ap (λ (l : List D). length l) put ∙ (put_size items dots first within ∙ size))
+    take_at ws (drop (length ws) items) len (ap (λ (l : List D). length l) put ∙ (put_size items dots first within ∙
+    size))
     ∙ put
   where
     put : ws ≡ take first items ++ (dots ++ drop (first + length dots) items)
@@ -125,22 +129,28 @@ run_put {D} old new dots ink first end order within same is = record {
         omega (arith, a, b, c, count, front)
 
     before : (col : ℕ) (d : D) → col < first →
-        get_or (take first old ++ (dots ++ drop (first + length dots) old)) col d ≡ over (given_where (Some ink) (is_in first end col)) (get_or old col d)
-    before col d early = get_or_append_left (take first old) (dots ++ drop (first + length dots) old) d col (omega (arith, front))
+        get_or (take first old ++ (dots ++ drop (first + length dots) old)) col d ≡ over (given_where (Some ink) (is_in
+        first end col)) (get_or old col d)
+    before col d early = get_or_append_left (take first old) (dots ++ drop (first + length dots) old) d col (omega
+        (arith, front))
         ∙ (get_or-take first old col d early
         ∙ sym (ap (λ b. over (given_where (Some ink) b) (get_or old col d)) (before_range first end col early)))
 
     within_run : (col : ℕ) (d : D) → first ≤ col → col < end →
-        get_or (take first old ++ (dots ++ drop (first + length dots) old)) col d ≡ over (given_where (Some ink) (is_in first end col)) (get_or old col d)
-    within_run col d late inside = get_or-append_right (take first old) (dots ++ drop (first + length dots) old) first col d front late
+        get_or (take first old ++ (dots ++ drop (first + length dots) old)) col d ≡ over (given_where (Some ink) (is_in
+        first end col)) (get_or old col d)
+    within_run col d late inside = get_or-append_right (take first old) (dots ++ drop (first + length dots) old) first
+        col d front late
         ∙ (get_or_append_left dots (drop (first + length dots) old) d (col - first) (omega (arith, count))
         ∙ (ap (λ (l : List D). get_or l (col - first) d) same
         ∙ (get_or-replicate (end - first) (col - first) ink d (omega arith)
         ∙ sym (ap (λ b. over (given_where (Some ink) b) (get_or old col d)) (in_range first end col late inside)))))
 
     after : (col : ℕ) (d : D) → end ≤ col →
-        get_or (take first old ++ (dots ++ drop (first + length dots) old)) col d ≡ over (given_where (Some ink) (is_in first end col)) (get_or old col d)
-    after col d behind = get_or-append_right (take first old) (dots ++ drop (first + length dots) old) first col d front (omega arith)
+        get_or (take first old ++ (dots ++ drop (first + length dots) old)) col d ≡ over (given_where (Some ink) (is_in
+        first end col)) (get_or old col d)
+    after col d behind = get_or-append_right (take first old) (dots ++ drop (first + length dots) old) first col d
+        front (omega arith)
         ∙ (get_or-append_right dots (drop (first + length dots) old) (end - first) (col - first) d count (omega arith)
         ∙ (get_or-drop (first + length dots) old ((col - first) - (end - first)) d
         ∙ (ap (λ n. get_or old n d)
@@ -176,7 +186,8 @@ column_more spans i col span inside is =
     ∙ ap (λ (s : SpanValue). have_column (take i spans) col || is_in s.first s.end col) (sym is)
 
 -- one span more is painted
-pub span_more : {D : Type 0} (paint : ℕ → Option D) (spans : List SpanValue) (i : ℕ) (span : SpanValue) (xs ys zs : List D) →
+pub span_more : {D : Type 0} (paint : ℕ → Option D) (spans : List SpanValue) (i : ℕ) (span : SpanValue) (xs ys zs :
+    List D) →
     i < length spans → span ≡ get_or spans i span →
     IsPainted (λ col. given_where (paint col) (have_column (take i spans) col)) xs ys →
     IsPainted (λ col. given_where (paint col) (is_in span.first span.end col)) ys zs →
@@ -195,7 +206,8 @@ and_or false false true = refl
 and_or false false false = refl
 
 -- one span more is painted where a test is passed
-pub open_span_more : {D : Type 0} (paint : ℕ → Option D) (open_at : ℕ → Bool) (spans : List SpanValue) (i : ℕ) (span : SpanValue)
+pub open_span_more : {D : Type 0} (paint : ℕ → Option D) (open_at : ℕ → Bool) (spans : List SpanValue) (i : ℕ) (span :
+    SpanValue)
     (xs ys zs : List D) → i < length spans → span ≡ get_or spans i span →
     IsPainted (λ col. given_where (paint col) (have_column (take i spans) col && open_at col)) xs ys →
     IsPainted (λ col. given_where (paint col) (is_in span.first span.end col && open_at col)) ys zs →
@@ -223,12 +235,14 @@ and_no true = refl
 and_no false = refl
 
 -- the next run of open columns of a span
-pub run_more : {D : Type 0} (paint : ℕ → Option D) (open_at : ℕ → Bool) (first from end : ℕ) (run : SpanValue) (xs ys zs : List D) →
+pub run_more : {D : Type 0} (paint : ℕ → Option D) (open_at : ℕ → Bool) (first from end : ℕ) (run : SpanValue) (xs ys
+    zs : List D) →
     first ≤ from → run.first < run.end → IsFirstRun from end open_at run →
     IsPainted (λ col. given_where (paint col) (is_in first from col && open_at col)) xs ys →
     IsPainted (λ col. given_where (paint col) (is_in run.first run.end col)) ys zs →
     IsPainted (λ col. given_where (paint col) (is_in first run.end col && open_at col)) xs zs
-run_more paint open_at first from end run xs ys zs order some is one other = painted_both paint _ _ _ xs ys zs same one other
+run_more paint open_at first from end run xs ys zs order some is one other = painted_both paint _ _ _ xs ys zs same one
+    other
   where
     same : (col : ℕ) → (is_in first run.end col && open_at col)
         ≡ ((is_in first from col && open_at col) || is_in run.first run.end col)
@@ -280,7 +294,8 @@ run_last paint open_at first from end xs ys order shut painted = painted_as _ _ 
 -- no column of a span is before its first
 pub none_yet : {D : Type 0} (paint : ℕ → Option D) (open_at : ℕ → Bool) (first : ℕ) (xs : List D) →
     IsPainted (λ col. given_where (paint col) (is_in first first col && open_at col)) xs xs
-none_yet paint open_at first xs = painted_as _ _ xs xs (λ col less. ap (given_where (paint col)) (sym (empty col))) (unpainted paint xs)
+none_yet paint open_at first xs = painted_as _ _ xs xs (λ col less. ap (given_where (paint col)) (sym (empty col)))
+    (unpainted paint xs)
   where
     empty : (col : ℕ) → (is_in first first col && open_at col) ≡ false
     empty col = elim (cases_lt col first) [
@@ -363,7 +378,8 @@ ink_open_span_more {D} ink now open_at spans i span first end xs ys zs inside is
     (subst (λ (d : D). IsPainted (λ col. given_where (Some d) (is_in first end col && open_at col)) ys zs) same other)))
 
 -- the next run of open columns is painted, told by its ends
-pub run_of_ends : {D : Type 0} (paint : ℕ → Option D) (open_at : ℕ → Bool) (first from end begins ends : ℕ) (run : SpanValue)
+pub run_of_ends : {D : Type 0} (paint : ℕ → Option D) (open_at : ℕ → Bool) (first from end begins ends : ℕ) (run :
+    SpanValue)
     (xs ys zs : List D) → first ≤ from → IsFirstRun from end open_at run → begins ≡ run.first → ends ≡ run.end →
     begins < ends → IsPainted (λ col. given_where (paint col) (is_in first from col && open_at col)) xs ys →
     IsPainted (λ col. given_where (paint col) (is_in begins ends col)) ys zs →

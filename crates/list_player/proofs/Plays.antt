@@ -1,5 +1,6 @@
 -- A list that is played in part: a command more, a stop, and the end.
-use Rattle.std.proofs.Common.{◌≡◌, ◌∙◌, ap, sym, subst, refl, inl, inr, ◌⊎◌, ℕ, suc, ◌+◌, ◌<◌, ◌≤◌, Bool, true, false, cond}
+use Rattle.std.proofs.Common.{◌≡◌, ◌∙◌, ap, sym, subst, refl, inl, inr, ◌⊎◌, ℕ, suc, ◌+◌, ◌<◌, ◌≤◌, Bool, true, false}
+use Rattle.std.proofs.Common.{cond}
 use Rattle.std.proofs.Common.{List, [], ◌∷◌, ◌++◌, length, take, drop, Option, Some, None, arith, append_assoc}
 use Rattle.std.specs.Prelude.{◌==◌, IfSome, reverse}
 use Rattle.std.specs.Option.{option_map_or, option_to_list}
@@ -66,11 +67,13 @@ starts bytes cmd count [] fits are front =
     let none : length bytes ≡ 0 = ap length are in
     absurd (let e : ⊥ = omega (arith, short, none) in e)
 starts bytes cmd count (c ∷ cmds) fits are front =
-    let one = one_front cmd c (drop count bytes) (spelled cmds) front.command fits.0 (front_of bytes cmd count front ∙ are) in
+    let one = one_front cmd c (drop count bytes) (spelled cmds) front.command fits.0 (front_of bytes cmd count front ∙
+    are) in
     record { rest = cmds; is = ap (λ (x : CmdValue). x ∷ cmds) (sym one.0); are = one.1 }
 
 -- no commands are left where none is at the front
-none_left : (bytes : List ℕ) (cmds : List CmdValue) → AllByRecursion IsCmd cmds → bytes ≡ spelled cmds → HasNoFront bytes →
+none_left : (bytes : List ℕ) (cmds : List CmdValue) → AllByRecursion IsCmd cmds → bytes ≡ spelled cmds → HasNoFront
+    bytes →
     cmds ≡ []
 unfolding spelled
 none_left bytes [] fits are none = refl
@@ -83,7 +86,8 @@ same_front bytes a b n m one other =
     (front_of bytes a n one ∙ sym (front_of bytes b m other))).0
 
 -- the marks of one command and of those behind it
-image_more : (regions : List RegionValue) (o : Option ImageValue) (paint : ImageValue → PaintValue) (rest : List MarkValue) →
+image_more : (regions : List RegionValue) (o : Option ImageValue) (paint : ImageValue → PaintValue) (rest : List
+    MarkValue) →
     image_marks regions o paint rest ≡ image_marks regions o paint [] ++ rest
 image_more regions None paint rest = refl
 image_more regions (Some image) paint rest = refl
@@ -96,7 +100,8 @@ said_more images ink clip (Inked other) cmds = refl
 said_more images ink clip (Clipped other) cmds = refl
 said_more images ink clip (Drawn rule shapes) cmds = refl
 said_more images ink clip (Shown place) cmds = image_more clip.regions (slice_get images place) (λ i. Pictured i) _
-said_more images ink clip (ShownThrough place) cmds = image_more clip.regions (slice_get images place) (λ i. Masked i ink) _
+said_more images ink clip (ShownThrough place) cmds = image_more clip.regions (slice_get images place) (λ i. Masked i
+    ink) _
 
 -- the sources of the mark of a command and of those behind it
 image_source : (regions : List RegionValue) (o : Option ImageValue) (left : List MarkValue) →
@@ -111,7 +116,8 @@ mask_source : (regions : List RegionValue) (ink : Ink) (o : Option ImageValue) (
 mask_source regions ink None left = refl
 mask_source regions ink (Some image) left = refl
 
-sources_more : (images : List ImageValue) (ink : Ink) (regions : List RegionValue) (cmd : CmdValue) (left : List MarkValue) →
+sources_more : (images : List ImageValue) (ink : Ink) (regions : List RegionValue) (cmd : CmdValue) (left : List
+    MarkValue) →
     filter_map mark_source (cmd_marks images ink regions cmd ++ left)
     ≡ cons_option (cmd_source images ink cmd) (filter_map mark_source left)
 sources_more images ink regions (Inked other) left = refl
@@ -125,7 +131,8 @@ abbrev pub needs_list : Option ℕ → List ℕ → List ℕ
 needs_list None xs = dedup ◌==◌ xs
 needs_list (Some source) xs = dedup_from ◌==◌ source xs
 
-needs_are : (source : Option ℕ) (marks : List MarkValue) → needs_from source marks ≡ needs_list source (filter_map mark_source marks)
+needs_are : (source : Option ℕ) (marks : List MarkValue) → needs_from source marks ≡ needs_list source (filter_map
+    mark_source marks)
 unfolding needs_of
 needs_are None marks = refl
 needs_are (Some source) marks = refl
@@ -139,7 +146,8 @@ served_needs : (source need : Option ℕ) (xs : List ℕ) → is_served source n
 served_needs source None xs served = refl
 served_needs None (Some s) xs served = absurd cc
 served_needs (Some lent) (Some s) xs served =
-    ap (λ b. cond b (dedup_from ◌==◌ lent xs) (lent ∷ dedup_from ◌==◌ s xs)) (eq-eqb s lent (sym (eqb-true lent s served)))
+    ap (λ b. cond b (dedup_from ◌==◌ lent xs) (lent ∷ dedup_from ◌==◌ s xs)) (eq-eqb s lent (sym (eqb-true lent s
+    served)))
 
 turned : (a b : ℕ) → (a == b) ≡ false → (b == a) ≡ false
 turned a b other = ne_eqb b a (λ same. eqb-false a b other (sym same))
@@ -180,7 +188,8 @@ band_after clip (ShownThrough place) rows band = band
 show_after : {D : Type 0} (dot : List ℕ → D) (depth : Depth) (tint : ℕ → CodeValue → List ℕ) (clip : BandMaskValue)
     (cmd : CmdValue) (shown : List MarkValue) (rows : List (List D)) →
     ShowMarks dot depth tint clip.width clip.first clip.rows shown rows →
-    ShowMarks dot depth tint (clip_after clip cmd).width (clip_after clip cmd).first (clip_after clip cmd).rows shown rows
+    ShowMarks dot depth tint (clip_after clip cmd).width (clip_after clip cmd).first (clip_after clip cmd).rows shown
+    rows
 show_after dot depth tint clip (Inked other) shown rows show = show
 show_after dot depth tint clip (Clipped other) shown rows show = show
 show_after dot depth tint clip (Drawn rule shapes) shown rows show = show
@@ -191,7 +200,8 @@ show_after dot depth tint clip (ShownThrough place) shown rows show = show
 left_is : (images : List ImageValue) (ink : Ink) (clip : BandMaskValue) (cmd : CmdValue) (after : List ℕ)
     (cmds : List CmdValue) (left : List MarkValue) → left ≡ marks_said images ink clip.regions cmds →
     (s : StartsWith cmd after cmds) →
-    left ≡ cmd_marks images ink clip.regions cmd ++ marks_said images (ink_after ink cmd) (clip_after clip cmd).regions s.rest
+    left ≡ cmd_marks images ink clip.regions cmd ++ marks_said images (ink_after ink cmd) (clip_after clip cmd).regions
+    s.rest
 left_is images ink clip cmd after cmds left say s =
     say ∙ (ap (marks_said images ink clip.regions) s.is ∙ said_more images ink clip cmd s.rest)
 
@@ -205,7 +215,8 @@ pub plays_step : {D : Type 0} (dot : List ℕ → D) (depth : Depth) (tint : ℕ
     (marks_dot dot depth (loan_tint depth colour wide) (cmd_marks images ink clip.regions cmd)) rows news →
     IsPlayed dot depth tint images whole met source clip rows ink bytes →
     IsPlayed dot depth tint images whole met source (clip_after clip cmd) news (ink_after ink cmd) (drop count bytes)
-plays_step {D} dot depth tint colour wide images whole met source clip rows news ink bytes cmd count served goes front painted
+plays_step {D} dot depth tint colour wide images whole met source clip rows news ink bytes cmd count served goes front
+    painted
     played =
     let s = starts bytes cmd count played.cmds played.commands played.are front in
     let left = left_is images ink clip cmd (drop count bytes) played.cmds played.left played.say s in
@@ -214,7 +225,8 @@ plays_step {D} dot depth tint colour wide images whole met source clip rows news
     record {
       shown = played.shown ++ marks;
       left = rest;
-      parts = played.parts ∙ (ap (λ (l : List MarkValue). played.shown ++ l) left ∙ sym (append_assoc played.shown marks rest));
+      parts = played.parts ∙ (ap (λ (l : List MarkValue). played.shown ++ l) left ∙ sym (append_assoc played.shown
+          marks rest));
       show = show_after dot depth tint clip cmd (played.shown ++ marks) news
           (shows_more dot depth tint clip.width clip.first clip.rows played.shown marks rows news played.show
           (repainted clip.first clip.rows _ (marks_dot dot depth tint marks) rows news
@@ -232,7 +244,8 @@ plays_step {D} dot depth tint colour wide images whole met source clip rows news
 
 -- the needs where a command waits for another loan
 stop_needs : {D : Type 0} (dot : List ℕ → D) (depth : Depth) (tint : ℕ → CodeValue → List ℕ) (images : List ImageValue)
-    (whole : List MarkValue) (met : List ℕ) (source : Option ℕ) (clip : BandMaskValue) (rows : List (List D)) (ink : Ink)
+    (whole : List MarkValue) (met : List ℕ) (source : Option ℕ) (clip : BandMaskValue) (rows : List (List D)) (ink :
+    Ink)
     (bytes : List ℕ) (cmd : CmdValue) (count s : ℕ) → Some s ≡ cmd_source images ink cmd →
     is_served source (Some s) ≡ false → IsFront bytes cmd count →
     (played : IsPlayed dot depth tint images whole met source clip rows ink bytes) →
@@ -252,8 +265,10 @@ stop_needs dot depth tint images whole met source clip rows ink bytes cmd count 
     ∙ sym (append_assoc met (option_to_list source) (needs_from (Some s) played.left)))
 
 -- a command waits for another loan
-pub plays_stop : {D : Type 0} (dot : List ℕ → D) (depth : Depth) (tint : ℕ → CodeValue → List ℕ) (images : List ImageValue)
-    (whole : List MarkValue) (met : List ℕ) (source need : Option ℕ) (clip : BandMaskValue) (rows : List (List D)) (ink : Ink)
+pub plays_stop : {D : Type 0} (dot : List ℕ → D) (depth : Depth) (tint : ℕ → CodeValue → List ℕ) (images : List
+    ImageValue)
+    (whole : List MarkValue) (met : List ℕ) (source need : Option ℕ) (clip : BandMaskValue) (rows : List (List D)) (ink
+    : Ink)
     (bytes : List ℕ) (cmd : CmdValue) (count : ℕ) → need ≡ cmd_source images ink cmd →
     is_served source need ≡ false → IsFront bytes cmd count →
     IsPlayed dot depth tint images whole met source clip rows ink bytes →
@@ -275,8 +290,10 @@ plays_stop dot depth tint images whole met source (Some s) clip rows ink bytes c
 }
 
 -- no command is left
-pub plays_end : {D : Type 0} (dot : List ℕ → D) (depth : Depth) (tint : ℕ → CodeValue → List ℕ) (images : List ImageValue)
-    (whole : List MarkValue) (met : List ℕ) (source : Option ℕ) (clip : BandMaskValue) (rows : List (List D)) (ink : Ink)
+pub plays_end : {D : Type 0} (dot : List ℕ → D) (depth : Depth) (tint : ℕ → CodeValue → List ℕ) (images : List
+    ImageValue)
+    (whole : List MarkValue) (met : List ℕ) (source : Option ℕ) (clip : BandMaskValue) (rows : List (List D)) (ink :
+    Ink)
     (bytes : List ℕ) → HasNoFront bytes → IsPlayed dot depth tint images whole met source clip rows ink bytes →
     HasPlayed dot depth tint images whole (met ++ option_to_list source) None clip rows ink bytes
 unfolding marks_said
@@ -330,7 +347,8 @@ next_need images ink bytes (Some s) cmd count is front = λ other m at.
     ap (cmd_source images ink) (same_front bytes other cmd m count at front) ∙ sym is
 
 -- at a stop fewer bytes are left than the loan was given
-pub less_stop : (source need : Option ℕ) (given rest : List ℕ) (first ink : Ink) (images : List ImageValue) (cmd : CmdValue)
+pub less_stop : (source need : Option ℕ) (given rest : List ℕ) (first ink : Ink) (images : List ImageValue) (cmd :
+    CmdValue)
     (count : ℕ) → ((rest ≡ given) × (ink ≡ first)) ⊎ (length rest < length given) → NeedsNow images first given source →
     need ≡ cmd_source images ink cmd → is_served source need ≡ false → IsFront rest cmd count →
     IfSome source (λ lent. length rest + awaited need < length given + 1)
@@ -380,7 +398,8 @@ band_more {D} clip next cmd first n p rows news is band painted =
     (band_after clip cmd news (still_band clip first n p rows news band painted))
 
 -- the commands behind one, told by what holds then
-pub servable_more : (source : Option ℕ) (channels : ℕ) (images : List ImageValue) (ink next : Ink) (bytes after : List ℕ)
+pub servable_more : (source : Option ℕ) (channels : ℕ) (images : List ImageValue) (ink next : Ink) (bytes after : List
+    ℕ)
     (cmd : CmdValue) (count : ℕ) → next ≡ ink_after ink cmd → after ≡ drop count bytes →
     AreServable source channels images ink bytes → IsFront bytes cmd count →
     AreServable source channels images next after
@@ -393,25 +412,30 @@ servable_more source channels images ink next bytes after cmd count holds left a
 pub plays_more : {D : Type 0} (dot : List ℕ → D) (depth : Depth) (tint : ℕ → CodeValue → List ℕ)
     (colour wide : CodeValue → List ℕ) (images : List ImageValue) (whole : List MarkValue) (met : List ℕ)
     (source : Option ℕ) (clip clip_next : BandMaskValue) (rows news : List (List D)) (ink ink_next : Ink)
-    (bytes after : List ℕ) (cmd : CmdValue) (count : ℕ) → clip_next ≡ clip_after clip cmd → ink_next ≡ ink_after ink cmd →
+    (bytes after : List ℕ) (cmd : CmdValue) (count : ℕ) → clip_next ≡ clip_after clip cmd → ink_next ≡ ink_after ink
+    cmd →
     after ≡ drop count bytes → is_served source (cmd_source images ink cmd) ≡ true →
     GoesBy source tint (lent_at depth colour wide) → IsFront bytes cmd count →
     ArePainted clip.first clip.rows
     (marks_dot dot depth (loan_tint depth colour wide) (cmd_marks images ink clip.regions cmd)) rows news →
     IsPlayed dot depth tint images whole met source clip rows ink bytes →
     IsPlayed dot depth tint images whole met source clip_next news ink_next after
-plays_more {D} dot depth tint colour wide images whole met source clip clip_next rows news ink ink_next bytes after cmd count
+plays_more {D} dot depth tint colour wide images whole met source clip clip_next rows news ink ink_next bytes after cmd
+    count
     cut holds left served goes front painted played =
     subst (λ (c : BandMaskValue). IsPlayed dot depth tint images whole met source c news ink_next after) (sym cut)
     (subst (λ (i : Ink). IsPlayed dot depth tint images whole met source (clip_after clip cmd) news i after) (sym holds)
-    (subst (λ (b : List ℕ). IsPlayed dot depth tint images whole met source (clip_after clip cmd) news (ink_after ink cmd) b)
+    (subst (λ (b : List ℕ). IsPlayed dot depth tint images whole met source (clip_after clip cmd) news (ink_after ink
+    cmd) b)
     (sym left)
     (plays_step dot depth tint colour wide images whole met source clip rows news ink bytes cmd count served goes front
     painted played)))
 
 -- no command is left, and no loan is waited for
-pub plays_ended : {D : Type 0} (dot : List ℕ → D) (depth : Depth) (tint : ℕ → CodeValue → List ℕ) (images : List ImageValue)
-    (whole : List MarkValue) (met : List ℕ) (source need : Option ℕ) (clip : BandMaskValue) (rows : List (List D)) (ink : Ink)
+pub plays_ended : {D : Type 0} (dot : List ℕ → D) (depth : Depth) (tint : ℕ → CodeValue → List ℕ) (images : List
+    ImageValue)
+    (whole : List MarkValue) (met : List ℕ) (source need : Option ℕ) (clip : BandMaskValue) (rows : List (List D)) (ink
+    : Ink)
     (bytes : List ℕ) → need ≡ None → HasNoFront bytes →
     IsPlayed dot depth tint images whole met source clip rows ink bytes →
     HasPlayed dot depth tint images whole (met ++ option_to_list source) need clip rows ink bytes

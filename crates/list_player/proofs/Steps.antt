@@ -46,26 +46,30 @@ unpainted_rows {D} first n p xs nothing = repainted first n (λ row col. None) p
     })
 
 drawn_shapes : {D : Type 0} (dot : List ℕ → D) (depth : Depth) (tint : ℕ → CodeValue → List ℕ) (first n : ℕ)
-    (images : List ImageValue) (ink : Ink) (regions : List RegionValue) (rule : Rule) (shapes : List Shape) (painted : D)
+    (images : List ImageValue) (ink : Ink) (regions : List RegionValue) (rule : Rule) (shapes : List Shape) (painted :
+    D)
     (xs ys : List (List D)) → painted ≡ dot (ink_rgb depth tint ink) →
     ArePainted first n (λ row col. given_where (Some painted)
     (list_any (shape_holds rule row col) shapes && is_open regions row col)) xs ys →
     ArePainted first n (marks_dot dot depth tint (cmd_marks images ink regions (Drawn rule shapes))) xs ys
 drawn_shapes {D} dot depth tint first n images ink regions rule shapes painted xs ys is put =
     repainted first n _ (marks_dot dot depth tint (cmd_marks images ink regions (Drawn rule shapes))) xs ys
-    (λ row col. ap (λ (d : D). given_where (Some d) (list_any (shape_holds rule row col) shapes && is_open regions row col)) is
+    (λ row col. ap (λ (d : D). given_where (Some d) (list_any (shape_holds rule row col) shapes && is_open regions row
+    col)) is
     ∙ ap (given_where (Some (dot (ink_rgb depth tint ink)))) (flat_covers rule shapes regions ink row col)) put
 
 -- what shapes painted with an ink's dot are
 pub drawn_cmd : {D : Type 0} (dot : List ℕ → D) (depth : Depth) (tint : ℕ → CodeValue → List ℕ) (first n : ℕ)
-    (images : List ImageValue) (ink : Ink) (regions : List RegionValue) (rule : Rule) (shapes : List Shape) (painted : D)
+    (images : List ImageValue) (ink : Ink) (regions : List RegionValue) (rule : Rule) (shapes : List Shape) (painted :
+    D)
     (seen : List Shape) (cmd : CmdValue) (xs ys : List (List D)) → cmd ≡ Drawn rule shapes → seen ≡ shapes →
     painted ≡ dot (ink_rgb depth tint ink) →
     ArePainted first n (λ row col. given_where (Some painted)
     (list_any (shape_holds rule row col) seen && is_open regions row col)) xs ys →
     ArePainted first n (marks_dot dot depth tint (cmd_marks images ink regions cmd)) xs ys
 drawn_cmd {D} dot depth tint first n images ink regions rule shapes painted seen cmd xs ys said same is put =
-    subst (λ (c : CmdValue). ArePainted first n (marks_dot dot depth tint (cmd_marks images ink regions c)) xs ys) (sym said)
+    subst (λ (c : CmdValue). ArePainted first n (marks_dot dot depth tint (cmd_marks images ink regions c)) xs ys) (sym
+    said)
     (drawn_shapes dot depth tint first n images ink regions rule shapes painted xs ys is
     (subst (λ (l : List Shape). ArePainted first n (λ row col. given_where (Some painted)
     (list_any (shape_holds rule row col) l && is_open regions row col)) xs ys) same put))
@@ -77,7 +81,8 @@ given_both d false true = refl
 given_both d false false = refl
 
 given_sample : {D : Type 0} (dot : List ℕ → D) (f : ℕ → List ℕ) (w : List ℕ) (sample : Option ℕ) (o : Bool) →
-    given_where (option_map (λ n. dot (f n)) sample) o ≡ given_where (Some (dot (option_map_or f sample w))) (is_some sample && o)
+    given_where (option_map (λ n. dot (f n)) sample) o ≡ given_where (Some (dot (option_map_or f sample w))) (is_some
+    sample && o)
 given_sample dot f w None true = refl
 given_sample dot f w None false = refl
 given_sample dot f w (Some n) o = refl
@@ -104,7 +109,8 @@ masked_dot dot depth tint ink regions image row col = given_both (dot (ink_rgb d
 
 -- what the samples of an image are
 pub shown_cmd : {D : Type 0} (dot : List ℕ → D) (depth : Depth) (colour wide : CodeValue → List ℕ) (first n : ℕ)
-    (images : List ImageValue) (ink : Ink) (regions : List RegionValue) (place : ℕ) (image : ImageValue) (cmd : CmdValue)
+    (images : List ImageValue) (ink : Ink) (regions : List RegionValue) (place : ℕ) (image : ImageValue) (cmd :
+    CmdValue)
     (xs ys : List (List D)) → cmd ≡ Shown place → Some image ≡ slice_get images place →
     ArePainted first n (λ row col. given_where
     (sample_dot (code_dot dot depth colour wide image.source) image (sample_at image row col))
@@ -113,7 +119,8 @@ pub shown_cmd : {D : Type 0} (dot : List ℕ → D) (depth : Depth) (colour wide
 shown_cmd dot depth colour wide first n images ink regions place image cmd xs ys said found put =
     subst (λ (c : CmdValue). ArePainted first n
     (marks_dot dot depth (loan_tint depth colour wide) (cmd_marks images ink regions c)) xs ys) (sym said)
-    (repainted first n _ (marks_dot dot depth (loan_tint depth colour wide) (cmd_marks images ink regions (Shown place))) xs ys
+    (repainted first n _ (marks_dot dot depth (loan_tint depth colour wide) (cmd_marks images ink regions (Shown
+    place))) xs ys
     (λ row col. shown_dot dot depth colour wide regions image row col
     ∙ ap (λ (o : Option ImageValue). marks_dot dot depth (loan_tint depth colour wide)
     (image_marks regions o (λ i. Pictured i) []) row col) found) put)
@@ -127,11 +134,13 @@ pub masked_cmd : {D : Type 0} (dot : List ℕ → D) (depth : Depth) (tint : ℕ
     (is_open regions row col)) xs ys →
     ArePainted first n (marks_dot dot depth tint (cmd_marks images ink regions cmd)) xs ys
 masked_cmd {D} dot depth tint first n images ink regions place image painted cmd xs ys said found is put =
-    subst (λ (c : CmdValue). ArePainted first n (marks_dot dot depth tint (cmd_marks images ink regions c)) xs ys) (sym said)
+    subst (λ (c : CmdValue). ArePainted first n (marks_dot dot depth tint (cmd_marks images ink regions c)) xs ys) (sym
+    said)
     (repainted first n _ (marks_dot dot depth tint (cmd_marks images ink regions (ShownThrough place))) xs ys
     (λ row col. ap (λ (d : D). given_where (mask_dot d image (sample_at image row col)) (is_open regions row col)) is
     ∙ (masked_dot dot depth tint ink regions image row col
-    ∙ ap (λ (o : Option ImageValue). marks_dot dot depth tint (image_marks regions o (λ i. Masked i ink) []) row col) found)) put)
+    ∙ ap (λ (o : Option ImageValue). marks_dot dot depth tint (image_marks regions o (λ i. Masked i ink) []) row col)
+    found)) put)
 
 -- the colour of an ink that a loan serves
 ink_agrees : (depth : Depth) (tint : ℕ → CodeValue → List ℕ) (colour wide : CodeValue → List ℕ) (source : Option ℕ)
@@ -143,7 +152,8 @@ ink_agrees depth tint colour wide (Some lent) (Linked s code) served goes =
     ap (λ (f : CodeValue → List ℕ). f code) goes ∙ ap (λ n. tint n code) (eqb-true lent s served)
 
 -- the colour of a sample that a loan serves
-sample_agrees : (depth : Depth) (tint : ℕ → CodeValue → List ℕ) (colour wide : CodeValue → List ℕ) (source own : Option ℕ)
+sample_agrees : (depth : Depth) (tint : ℕ → CodeValue → List ℕ) (colour wide : CodeValue → List ℕ) (source own : Option
+    ℕ)
     (code : CodeValue) → is_served source own ≡ true → GoesBy source tint (lent_at depth colour wide) →
     ink_rgb depth (loan_tint depth colour wide) (sample_ink own code) ≡ ink_rgb depth tint (sample_ink own code)
 sample_agrees depth tint colour wide source None code served goes = refl
@@ -153,7 +163,8 @@ sample_agrees depth tint colour wide source (Some s) code served goes =
 picture_agrees : (depth : Depth) (tint : ℕ → CodeValue → List ℕ) (colour wide : CodeValue → List ℕ) (source : Option ℕ)
     (image : ImageValue) (sample : Option ℕ) → is_served source image.source ≡ true →
     GoesBy source tint (lent_at depth colour wide) →
-    option_map_or (λ n. ink_rgb depth (loan_tint depth colour wide) (sample_ink image.source (code_at image n))) sample (white depth)
+    option_map_or (λ n. ink_rgb depth (loan_tint depth colour wide) (sample_ink image.source (code_at image n))) sample
+    (white depth)
     ≡ option_map_or (λ n. ink_rgb depth tint (sample_ink image.source (code_at image n))) sample (white depth)
 picture_agrees depth tint colour wide source image None served goes = refl
 picture_agrees depth tint colour wide source image (Some n) served goes =
@@ -172,7 +183,8 @@ shown_agrees dot depth tint colour wide source regions (Some image) served goes 
     (picture_agrees depth tint colour wide source image (sample_at image row col) served goes)
 
 masked_agrees : {D : Type 0} (dot : List ℕ → D) (depth : Depth) (tint : ℕ → CodeValue → List ℕ)
-    (colour wide : CodeValue → List ℕ) (source : Option ℕ) (ink : Ink) (regions : List RegionValue) (o : Option ImageValue) →
+    (colour wide : CodeValue → List ℕ) (source : Option ℕ) (ink : Ink) (regions : List RegionValue) (o : Option
+    ImageValue) →
     is_served source (option_map_or (λ (image : ImageValue). ink_source ink) o None) ≡ true →
     GoesBy source tint (lent_at depth colour wide) → (row col : ℕ) →
     marks_dot dot depth (loan_tint depth colour wide) (image_marks regions o (λ i. Masked i ink) []) row col
@@ -193,7 +205,8 @@ pub cmd_agrees : {D : Type 0} (dot : List ℕ → D) (depth : Depth) (tint : ℕ
 cmd_agrees dot depth tint colour wide source images ink regions (Inked other) served goes row col = refl
 cmd_agrees dot depth tint colour wide source images ink regions (Clipped other) served goes row col = refl
 cmd_agrees dot depth tint colour wide source images ink regions (Drawn rule shapes) served goes row col =
-    ap (λ (rgb : List ℕ). given_where (Some (dot rgb)) (covers_dot row col (said_mark rule shapes regions (Flatly ink))))
+    ap (λ (rgb : List ℕ). given_where (Some (dot rgb)) (covers_dot row col (said_mark rule shapes regions (Flatly
+    ink))))
     (ink_agrees depth tint colour wide source ink served goes)
 cmd_agrees dot depth tint colour wide source images ink regions (Shown place) served goes row col =
     shown_agrees dot depth tint colour wide source regions (slice_get images place) served goes row col

@@ -129,8 +129,8 @@ impl BandClip {
         requires row { IsRowOfBand self.now number }
         requires within { length row.old ≡ self.now.width }
         requires picks { length picks.now.items ≡ self.now.width }
-        requires inside { (k n : ℕ) → k < length picks.now.items → slice_index_or picks.now.items k NoSample ≡ Number n →
-            n < image.now.width * image.now.rows }
+        requires inside { (k n : ℕ) → k < length picks.now.items → slice_index_or picks.now.items k NoSample
+            ≡ Number n → n < image.now.width * image.now.rows }
         requires channels { ImageHasChannels (λ source. L.channels loan.now) image.now.channels image.now.source }
         requires memo { Remembers (lent_dot T.dot T.depth (L.colour loan.now) (L.wide loan.now)) memo.old.told.items }
         ensures put { IsPainted (λ col. given_where
@@ -158,8 +158,8 @@ impl BandClip {
         requires row { IsRowOfBand self.now number }
         requires within { length row.old ≡ self.now.width }
         requires picks { length picks.now.items ≡ self.now.width }
-        requires inside { (k n : ℕ) → k < length picks.now.items → slice_index_or picks.now.items k NoSample ≡ Number n →
-            n < image.now.width * image.now.rows }
+        requires inside { (k n : ℕ) → k < length picks.now.items → slice_index_or picks.now.items k NoSample
+            ≡ Number n → n < image.now.width * image.now.rows }
         ensures put { IsPainted (λ col. given_where
             (mask_dot dot image.now (picked (slice_index_or picks.now.items col NoSample)))
             (is_open self.now.regions number col)) row.old row.new }

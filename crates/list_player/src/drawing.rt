@@ -1,5 +1,6 @@
 //! A band that is drawn: its rows of dots, what paints them, and their bytes.
-ghost use Rattle.std.specs.Prelude.{◌≡◌, ◌+◌, ◌*◌, ◌<◌, ◌≤◌, ◌^◌, ◌++◌, ◌&&◌, [], ℕ, List, length, replicate, slice_index_or};
+ghost use Rattle.std.specs.Prelude.{◌≡◌, ◌+◌, ◌*◌, ◌<◌, ◌≤◌, ◌^◌, ◌++◌, ◌&&◌, [], ℕ, List, length, replicate};
+ghost use Rattle.std.specs.Prelude.{slice_index_or};
 ghost use Rattle.std.specs.Prelude.{OnOk, OnErr, IfOk, Some};
 ghost use Rattle.std.specs.List.{flat_map, list_any};
 ghost use Rattle.std.specs.Arc.{arc_value};
@@ -39,7 +40,8 @@ impl<T: Dot> Band<T> {
     /// White rows, `count` of them from the page's row `first` on, and a clip that cuts nothing.
     pub(crate) fn new(alloc: Global, width: u32, first: u32, count: u32) -> Mem<Band<T>>
         requires { first + count ≤ 2 ^ 32 }
-        ensures rows { IfOk result (λ band. band.rows.items ≡ replicate count (replicate width (T.dot (white T.depth)))) }
+        ensures rows { IfOk result (λ band. band.rows.items ≡ replicate count (replicate width
+            (T.dot (white T.depth)))) }
         ensures clip { IfOk result (λ band.
             band.clip ≡ record { width = width; first = first; rows = count; regions = [] }) }
         ensures band { IfOk result (λ band. IsBand band.clip band.rows.items) }

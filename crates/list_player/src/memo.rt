@@ -31,7 +31,8 @@ impl<T: Dot> Memo<T> {
 
     /// Forgets all, for another loan.
     pub(crate) fn forget<L: Lent>(&mut self, loan: &L) -> Mem<()>
-        ensures { OnOk result (Remembers (lent_dot T.dot T.depth (L.colour loan.now) (L.wide loan.now)) self.new.told.items) }
+        ensures { OnOk result (Remembers (lent_dot T.dot T.depth (L.colour loan.now) (L.wide loan.now))
+            self.new.told.items) }
     {
         self.told.clear();
         self.told.resize(PLACES, None)?;

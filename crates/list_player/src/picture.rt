@@ -57,7 +57,8 @@ fn put_sample<T: Dot, L: Lent>(
     requires channels { ImageHasChannels (λ source. L.channels loan.now) image.now.channels image.now.source }
     requires memo { Remembers (lent_dot T.dot T.depth (L.colour loan.now) (L.wide loan.now)) memo.old.told.items }
     ensures put { IsPainted (λ k. given_where
-        (sample_dot (code_dot T.dot T.depth (L.colour loan.now) (L.wide loan.now) image.now.source) image.now (picked pick))
+        (sample_dot (code_dot T.dot T.depth (L.colour loan.now) (L.wide loan.now) image.now.source) image.now
+        (picked pick))
         (is_in col (col + 1) k)) row.old.items row.new.items }
     ensures memo { Remembers (lent_dot T.dot T.depth (L.colour loan.now) (L.wide loan.now)) memo.new.told.items }
 {

@@ -1,5 +1,6 @@
 //! Playing the list of a band: its marks drawn in order, each with the colours of its source.
-ghost use Rattle.std.specs.Prelude.{◌≡◌, ◌+◌, ◌-◌, ◌*◌, ◌<◌, ◌≤◌, ◌++◌, ◌^◌, ℕ, List, length, replicate, true, false, IfOk, OnOk, OnErr};
+ghost use Rattle.std.specs.Prelude.{◌≡◌, ◌+◌, ◌-◌, ◌*◌, ◌<◌, ◌≤◌, ◌++◌, ◌^◌, ℕ, List, length, replicate, true, false};
+ghost use Rattle.std.specs.Prelude.{IfOk, OnOk, OnErr};
 ghost use Rattle.std.specs.Prelude.{Contains, option_map, map, All, [], None, Some, MatchOption, IfSome};
 ghost use Rattle.std.specs.List.{slice_get};
 ghost use Rattle.std.specs.Option.{option_copied, option_to_list};
@@ -17,7 +18,8 @@ ghost use Rattle.band_writer.specs.Listing.{opening};
 ghost use Rattle.list_player.specs.Painting.{ArePainted, IsBand};
 ghost use Rattle.list_player.specs.Memo.{Remembers};
 ghost use Rattle.list_player.specs.Playing.{SayMarks, dots_of, tint_at};
-ghost use Rattle.list_player.specs.Code.Steps.{lent_at, lent_dot, loan_tint, marks_dot, cmd_marks, cmd_source, ink_after};
+ghost use Rattle.list_player.specs.Code.Steps.{lent_at, lent_dot, loan_tint, marks_dot, cmd_marks, cmd_source};
+ghost use Rattle.list_player.specs.Code.Steps.{ink_after};
 ghost use Rattle.list_player.specs.Code.Steps.{clip_after, CmdHasChannels, AreServable, NeedsNow, GoesBy, IsPlayed};
 ghost use Rattle.list_player.specs.Code.Steps.{HasPlayed, ShowMarks, is_served as serves, awaited};
 ghost use Rattle.band_writer.specs.Parts.{AreSpellings};
@@ -199,7 +201,8 @@ impl<T: Dot> Playing<T> {
         loan: &L,
     ) -> Mem<&'b [u8]>
         requires band { IsBand self.old.band.clip self.old.band.rows.items }
-        requires servable { AreServable self.old.need (L.channels loan.now) (map arc_value images.now) self.old.ink bytes.now }
+        requires servable { AreServable self.old.need (L.channels loan.now) (map arc_value images.now) self.old.ink
+            bytes.now }
         requires next { NeedsNow (map arc_value images.now) self.old.ink bytes.now self.old.need }
         ensures band { OnOk result (IsBand self.new.band.clip self.new.band.rows.items) }
         ensures clip { OnOk result (self.new.band.clip
@@ -231,7 +234,8 @@ impl<T: Dot> Playing<T> {
     ) -> Mem<&'b [u8]>
         requires free { self.old.need ≡ None }
         requires band { IsBand self.old.band.clip self.old.band.rows.items }
-        requires memo { Remembers (lent_dot T.dot T.depth (L.colour loan.now) (L.wide loan.now)) self.old.memo.told.items }
+        requires memo { Remembers (lent_dot T.dot T.depth (L.colour loan.now) (L.wide loan.now))
+            self.old.memo.told.items }
         requires servable { AreServable source (L.channels loan.now) (map arc_value images.now) self.old.ink bytes.now }
         requires next { NeedsNow (map arc_value images.now) self.old.ink bytes.now source }
         ensures band { OnOk result (IsBand self.new.band.clip self.new.band.rows.items) }
@@ -265,7 +269,8 @@ impl<T: Dot> Playing<T> {
     /// Does what a command says; a code that goes by a source goes by the loan.
     fn obey<L: Lent>(&mut self, brief: Brief, images: &[Arc<Image>], loan: &L) -> Mem<()>
         requires band { IsBand self.old.band.clip self.old.band.rows.items }
-        requires memo { Remembers (lent_dot T.dot T.depth (L.colour loan.now) (L.wide loan.now)) self.old.memo.told.items }
+        requires memo { Remembers (lent_dot T.dot T.depth (L.colour loan.now) (L.wide loan.now))
+            self.old.memo.told.items }
         requires channels { CmdHasChannels (λ source. L.channels loan.now) (map arc_value images.now) self.old.ink
             (brief_value brief self.old.commands) }
         ensures painted { OnOk result (ArePainted self.old.band.clip.first self.old.band.clip.rows
@@ -277,7 +282,8 @@ impl<T: Dot> Playing<T> {
             ≡ clip_after self.old.band.clip (brief_value brief self.old.commands)) }
         ensures ink { OnOk result (self.new.ink ≡ ink_after self.old.ink (brief_value brief self.old.commands)) }
         ensures need { self.new.need ≡ self.old.need }
-        ensures memo { Remembers (lent_dot T.dot T.depth (L.colour loan.now) (L.wide loan.now)) self.new.memo.told.items }
+        ensures memo { Remembers (lent_dot T.dot T.depth (L.colour loan.now) (L.wide loan.now))
+            self.new.memo.told.items }
     {
         match brief {
             Brief::Flat(ink) => {

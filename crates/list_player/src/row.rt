@@ -1,5 +1,6 @@
 //! The dots of one row.
-ghost use Rattle.std.specs.Prelude.{◌≡◌, ◌+◌, ◌-◌, ◌≤◌, ◌<◌, ◌++◌, ◌&&◌, ℕ, List, length, take, drop, replicate, OnOk, true, Some};
+ghost use Rattle.std.specs.Prelude.{◌≡◌, ◌+◌, ◌-◌, ◌≤◌, ◌<◌, ◌++◌, ◌&&◌, ℕ, List, length, take, drop, replicate};
+ghost use Rattle.std.specs.Prelude.{OnOk, true, Some};
 ghost use Rattle.std.specs.Prelude.{MatchOption, IfOk};
 ghost use Rattle.geo_fill.specs.Spans.{is_in, have_column};
 ghost use Rattle.geo_clip.specs.Mask.{IsRowOfBand, is_open};
@@ -247,8 +248,8 @@ impl<T: Dot> DotRow<T> {
         requires order { from ≤ to }
         requires within { to ≤ length self.old }
         requires picks { to ≤ length picks.now.items }
-        requires inside { (k n : ℕ) → k < length picks.now.items → slice_index_or picks.now.items k NoSample ≡ Number n →
-            n < image.now.width * image.now.rows }
+        requires inside { (k n : ℕ) → k < length picks.now.items → slice_index_or picks.now.items k NoSample
+            ≡ Number n → n < image.now.width * image.now.rows }
         requires channels { ImageHasChannels (λ source. L.channels loan.now) image.now.channels image.now.source }
         requires memo { Remembers (lent_dot T.dot T.depth (L.colour loan.now) (L.wide loan.now)) memo.old.told.items }
         ensures put { IsPainted (λ col. given_where
@@ -284,8 +285,8 @@ impl<T: Dot> DotRow<T> {
         requires range { width ≤ mask.now.width }
         requires within { width ≤ length self.old }
         requires picks { width ≤ length picks.now.items }
-        requires inside { (k n : ℕ) → k < length picks.now.items → slice_index_or picks.now.items k NoSample ≡ Number n →
-            n < image.now.width * image.now.rows }
+        requires inside { (k n : ℕ) → k < length picks.now.items → slice_index_or picks.now.items k NoSample
+            ≡ Number n → n < image.now.width * image.now.rows }
         requires channels { ImageHasChannels (λ source. L.channels loan.now) image.now.channels image.now.source }
         requires memo { Remembers (lent_dot T.dot T.depth (L.colour loan.now) (L.wide loan.now)) memo.old.told.items }
         ensures put { IsPainted (λ col. given_where
@@ -309,8 +310,8 @@ impl<T: Copy> DotRow<T> {
         requires order { from ≤ to }
         requires within { to ≤ length self.old }
         requires picks { to ≤ length picks.now.items }
-        requires inside { (k n : ℕ) → k < length picks.now.items → slice_index_or picks.now.items k NoSample ≡ Number n →
-            n < image.now.width * image.now.rows }
+        requires inside { (k n : ℕ) → k < length picks.now.items → slice_index_or picks.now.items k NoSample
+            ≡ Number n → n < image.now.width * image.now.rows }
         ensures { IsPainted (λ col. given_where
             (mask_dot dot image.now (picked (slice_index_or picks.now.items col NoSample)))
             (is_in from to col)) self.old self.new }
@@ -340,8 +341,8 @@ impl<T: Copy> DotRow<T> {
         requires range { width ≤ mask.now.width }
         requires within { width ≤ length self.old }
         requires picks { width ≤ length picks.now.items }
-        requires inside { (k n : ℕ) → k < length picks.now.items → slice_index_or picks.now.items k NoSample ≡ Number n →
-            n < image.now.width * image.now.rows }
+        requires inside { (k n : ℕ) → k < length picks.now.items → slice_index_or picks.now.items k NoSample
+            ≡ Number n → n < image.now.width * image.now.rows }
         ensures { IsPainted (λ col. given_where
             (mask_dot dot image.now (picked (slice_index_or picks.now.items col NoSample)))
             (is_in 0 width col && is_open mask.now.regions row col)) self.old self.new }

@@ -1,6 +1,7 @@
 -- A band on its way: what each command of its list does, and what is left. Own rule: all that is painted while one loan
 -- is out goes by that loan.
-use Rattle.std.specs.Prelude.{◌≡◌, ℕ, ◌+◌, ◌<◌, ◌≤◌, ◌==◌, ◌++◌, List, [], ◌∷◌, length, slice_index_or, Bool, true, false}
+use Rattle.std.specs.Prelude.{◌≡◌, ℕ, ◌+◌, ◌<◌, ◌≤◌, ◌==◌, ◌++◌, List, [], ◌∷◌, length, slice_index_or, Bool, true}
+use Rattle.std.specs.Prelude.{false}
 use Rattle.std.specs.Prelude.{Option, Some, None, IfSome, option_map}
 use Rattle.std.specs.Option.{option_map_or}
 use Rattle.std.specs.List.{AllByRecursion, slice_get, filter_map, dedup_from}
@@ -46,7 +47,8 @@ mark_dot dot depth tint mark row col =
     given_where (Some (dot (mark_rgb depth tint row col mark))) (covers_dot row col mark)
 
 -- what marks give a dot, one after the other
-abbrev pub marks_dot : {D : Type 0} → (List ℕ → D) → Depth → (ℕ → CodeValue → List ℕ) → List MarkValue → ℕ → ℕ → Option D
+abbrev pub marks_dot : {D : Type 0} → (List ℕ → D) → Depth → (ℕ → CodeValue → List ℕ) → List MarkValue → ℕ → ℕ → Option
+    D
 marks_dot dot depth tint [] row col = None
 marks_dot dot depth tint (mark ∷ marks) row col =
     later (mark_dot dot depth tint mark row col) (marks_dot dot depth tint marks row col)
@@ -117,7 +119,8 @@ AllSuit source channels images ink (cmd ∷ cmds) =
     × AllSuit source channels images (ink_after ink cmd) cmds
 
 -- bytes of commands, of which those that a loan serves convert codes of so many channels
-pub record AreServable (source : Option ℕ) (channels : ℕ) (images : List ImageValue) (ink : Ink) (bytes : List ℕ) : Type 0 where
+pub record AreServable (source : Option ℕ) (channels : ℕ) (images : List ImageValue) (ink : Ink) (bytes : List ℕ) :
+    Type 0 where
   pub cmds : List CmdValue
   pub commands : AllByRecursion IsCmd cmds
   pub are : bytes ≡ spelled cmds

@@ -13,5 +13,6 @@ invariant-loop-i g l = record {
       (sample_dot (code_dot g.T.Dot.dot g.T.Dot.depth (g.L.Lent.colour l.loan) (g.L.Lent.wide l.loan) l.image.source)
       l.image (sample_at l.image row col)) (is_open l.clip.regions row col)) l.initial.rows.items l.rows.items;
   size : length l.picks.items ≡ l.clip.width;
-  memo : Remembers (lent_dot g.T.Dot.dot g.T.Dot.depth (g.L.Lent.colour l.loan) (g.L.Lent.wide l.loan)) l.memo.told.items;
+  memo : Remembers (lent_dot g.T.Dot.dot g.T.Dot.depth (g.L.Lent.colour l.loan) (g.L.Lent.wide l.loan))
+      l.memo.told.items;
 }

@@ -16,11 +16,13 @@ loop-i-preserved g c =
     c.loop-i.rows.items c.requires.band.wide (omega (arith, inside, size)) c.loop-i.invariant.painted in
     let long = c.pick_row.ensures.size ∙ c.loop-i.invariant.size in
     record {
-      painted = rows_more c.args.clip.now.first c.loop-i.i _ c.args.rows.now.items c.loop-i.rows.items c.put_mask.new.row
+      painted = rows_more c.args.clip.now.first c.loop-i.i _ c.args.rows.now.items c.loop-i.rows.items
+          c.put_mask.new.row
           inside c.loop-i.invariant.painted
           (sampled_row (mask_dot c.args.dot c.args.image.now) (is_open c.args.clip.now.regions) c.args.image.now
           (c.args.clip.now.first + c.loop-i.i) (c.first.result + c.loop-i.i) (c.first-in-loop-i.result + c.loop-i.i)
-          c.args.clip.now.width c.pick_row.new.picks.items (get_or c.loop-i.rows.items c.loop-i.i []) _ c.put_mask.new.row
+          c.args.clip.now.width c.pick_row.new.picks.items (get_or c.loop-i.rows.items c.loop-i.i []) _
+          c.put_mask.new.row
           (ap (λ n. n + c.loop-i.i) c.first.ensures.value) (ap (λ n. n + c.loop-i.i) c.first-in-loop-i.ensures.value)
           c.pick_row.ensures.samples long wide row c.put_mask.ensures.put);
       size = long;

@@ -1,4 +1,3 @@
-use Rattle.std.proofs.Common.{rules}
 use Rattle.list_player.proofs.memo.lent_dot.Goals as goal
 
 pub returns-in-Some-clause-value : goal.returns-in-Some-clause-value

@@ -5,7 +5,8 @@ use Rattle.std.specs.Arc.{arc_value}
 use Rattle.band_writer.specs.Said.{list_marks}
 use Rattle.list_player.specs.Playing.{tint_at}
 use Rattle.list_player.proofs.Lists.{opened, said_of, under_way, goes_none, goes_some, servable_unlinked, none_waits}
-use Rattle.list_player.proofs.Lists.{servable_of, known_next, one_more, further, ended_shown, ended_met, goes_by, said_once}
+use Rattle.list_player.proofs.Lists.{servable_of, known_next, one_more, further, ended_shown, ended_met, goes_by}
+use Rattle.list_player.proofs.Lists.{said_once}
 use Rattle.list_player.proofs.Lists.{clip_twice, on_err, few_more}
 use Rattle.list_player.proofs.playing.Playing.play_list.Goals as goal
 
@@ -53,7 +54,8 @@ loop-self-preserved g c =
     record {
       way = further g.T.Dot.dot g.T.Dot.depth tint images c.args.bytes.now _ _ _ _ _ _ _ _ _ _ _ _ _ _ c.in-Some.source
           c.loop-self.self.need c.run-ran.new.self.need c.in-Some.is way
-          (c.give_back.ensures.lent ∙ c.in_ok-loan.ensures.lent) (c.give_back.ensures.tries ∙ c.in_ok-loan.ensures.tries)
+          (c.give_back.ensures.lent ∙ c.in_ok-loan.ensures.lent) (c.give_back.ensures.tries ∙
+          c.in_ok-loan.ensures.tries)
           (c.in_ok-rest-2.ensures.played tint way.whole way.met goes way.played.played);
       band = c.in_ok-rest-2.ensures.band;
       clip = clip_twice c.args.self.now.band.clip c.loop-self.self.band.clip c.run-ran.new.self.band.clip
@@ -76,8 +78,10 @@ pub run-ran-requires-clause-servable : goal.run-ran-requires-clause-servable
 run-ran-requires-clause-servable g c = let way = c.loop-self.invariant.way in
     servable_of g.T.Dot.dot g.T.Dot.depth
     (tint_at g.T.Dot.depth (g.C.Colours.colour c.args.colours.now) (g.C.Colours.wide c.args.colours.now))
-    (map arc_value c.args.images.now) way.whole way.met c.in-Some.source c.loop-self.self.need c.loop-self.self.band.clip
-    c.loop-self.self.band.rows.items c.loop-self.self.ink c.loop-self.rest.now (g.C.Colours.channels c.args.colours.now) _
+    (map arc_value c.args.images.now) way.whole way.met c.in-Some.source c.loop-self.self.need
+    c.loop-self.self.band.clip
+    c.loop-self.self.band.rows.items c.loop-self.self.ink c.loop-self.rest.now (g.C.Colours.channels
+    c.args.colours.now) _
     c.in-Some.is
     (c.in_ok-loan.ensures.channels ∙ ap (λ (f : ℕ → ℕ). f c.in-Some.source) c.loop-self.invariant.channels)
     (c.requires.channels way.whole way.says) way.played.played
@@ -85,7 +89,8 @@ run-ran-requires-clause-servable g c = let way = c.loop-self.invariant.way in
 pub returns-in_err-loan-clause-few : goal.returns-in_err-loan-clause-few
 returns-in_err-loan-clause-few g c = let way = c.loop-self.invariant.way in
     λ marks says. on_err _ _ (few_more (g.C.Colours.tries c.args.colours.now) (g.C.Colours.tries c.loop-self.colours)
-    (g.C.Colours.tries c.lend.new.self) way.met way.whole marks way.played.played.left c.in-Some.source c.loop-self.self.need
+    (g.C.Colours.tries c.lend.new.self) way.met way.whole marks way.played.played.left c.in-Some.source
+    c.loop-self.self.need
     c.in-Some.is c.lend.ensures.tries way.tries way.played.played.needs
     (said_once (map arc_value c.args.images.now) c.args.bytes.now way.whole marks way.says says))
 
@@ -101,16 +106,19 @@ pub returns-clause-shown : goal.returns-clause-shown
 returns-clause-shown g c = λ marks says. ended_shown g.T.Dot.dot g.T.Dot.depth
     (tint_at g.T.Dot.depth (g.C.Colours.colour c.args.colours.now) (g.C.Colours.wide c.args.colours.now))
     (map arc_value c.args.images.now) c.args.bytes.now _ _ _ _ c.args.self.now.band.clip c.loop-self.self.band.clip
-    c.loop-self.self.band.rows.items c.loop-self.self.ink c.loop-self.rest.now c.loop-self.self.need marks c.in_default.is
+    c.loop-self.self.band.rows.items c.loop-self.self.ink c.loop-self.rest.now c.loop-self.self.need marks
+    c.in_default.is
     c.loop-self.invariant.clip says c.loop-self.invariant.way
 
 pub returns-clause-lent : goal.returns-clause-lent
 returns-clause-lent g c = let way = c.loop-self.invariant.way in
-    λ marks says. way.lent ∙ ap (λ (ns : List ℕ). option_map (λ (ss : List ℕ). ss ++ ns) (g.C.Colours.lent c.args.colours.now))
+    λ marks says. way.lent ∙ ap (λ (ns : List ℕ). option_map (λ (ss : List ℕ). ss ++ ns) (g.C.Colours.lent
+    c.args.colours.now))
     (ended_met g.T.Dot.dot g.T.Dot.depth
     (tint_at g.T.Dot.depth (g.C.Colours.colour c.args.colours.now) (g.C.Colours.wide c.args.colours.now))
     (map arc_value c.args.images.now) c.args.bytes.now _ _ _ _ c.loop-self.self.band.clip
-    c.loop-self.self.band.rows.items c.loop-self.self.ink c.loop-self.rest.now c.loop-self.self.need marks c.in_default.is
+    c.loop-self.self.band.rows.items c.loop-self.self.ink c.loop-self.rest.now c.loop-self.self.need marks
+    c.in_default.is
     says way)
 
 pub returns-clause-tries : goal.returns-clause-tries
@@ -119,5 +127,6 @@ returns-clause-tries g c = let way = c.loop-self.invariant.way in
     (ended_met g.T.Dot.dot g.T.Dot.depth
     (tint_at g.T.Dot.depth (g.C.Colours.colour c.args.colours.now) (g.C.Colours.wide c.args.colours.now))
     (map arc_value c.args.images.now) c.args.bytes.now _ _ _ _ c.loop-self.self.band.clip
-    c.loop-self.self.band.rows.items c.loop-self.self.ink c.loop-self.rest.now c.loop-self.self.need marks c.in_default.is
+    c.loop-self.self.band.rows.items c.loop-self.self.ink c.loop-self.rest.now c.loop-self.self.need marks
+    c.in_default.is
     says way)

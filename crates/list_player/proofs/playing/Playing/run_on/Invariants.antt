@@ -12,7 +12,8 @@ abbrev pub invariant-loop-brief : goal.invariant-loop-brief
 invariant-loop-brief g l = record {
   free : l.self.need ≡ None;
   band : IsBand l.self.band.clip l.self.band.rows.items;
-  memo : Remembers (lent_dot g.T.Dot.dot g.T.Dot.depth (g.L.Lent.colour l.loan) (g.L.Lent.wide l.loan)) l.self.memo.told.items;
+  memo : Remembers (lent_dot g.T.Dot.dot g.T.Dot.depth (g.L.Lent.colour l.loan) (g.L.Lent.wide l.loan))
+      l.self.memo.told.items;
   clip : l.self.band.clip ≡ record l.initial.self.band.clip { regions = l.self.band.clip.regions };
   servable : AreServable l.source (g.L.Lent.channels l.loan) (map arc_value l.images) l.self.ink l.rest;
   moved : ((l.rest ≡ l.fn.bytes) × (l.self.ink ≡ l.initial.self.ink)) ⊎ (length l.rest < length l.fn.bytes);

@@ -1,11 +1,9 @@
-use Rattle.std.proofs.Common.{◌≡◌, ◌≤◌, ◌-◌, ◌&&◌, get_or, Some}
+use Rattle.std.proofs.Common.{◌≤◌, ◌-◌, ◌&&◌, get_or}
 use Rattle.geo_fill.specs.Spans.{is_in}
 use Rattle.geo_clip.specs.Mask.{is_open}
 use Rattle.img_map.specs.declared.row.Pick.TheVariants.{Outside}
 use Rattle.img_map.specs.Picks.{picked}
-use Rattle.list_player.specs.Painting.{given_where, sample_dot, mask_dot, IsPainted}
-use Rattle.list_player.specs.Code.Steps.{lent_dot, code_dot}
-use Rattle.list_player.specs.Memo.{Remembers}
+use Rattle.list_player.specs.Painting.{given_where, mask_dot, IsPainted}
 use Rattle.list_player.proofs.row.DotRow.put_open_mask.Given as goal
 
 -- the open columns so far are painted through the mask

@@ -1,6 +1,0 @@
-//! Bands drawn from their lists, beside the page dot by dot.
-#![tactic(auto)]
-
-mod marks;
-mod tests;
-mod tints;
