@@ -8,3 +8,5 @@ mod keys;
 mod kinds;
 #[cfg(test)]
 mod pairs;
+#[cfg(test)]
+mod stages;

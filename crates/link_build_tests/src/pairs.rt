@@ -3,7 +3,7 @@ ghost use Rattle.std.specs.Prelude.{◌<◌};
 
 use crate::kinds::{LUTS_OF_ONE_AND_FOUR, LUTS_OF_THREE, MATRIX_AND_GRAY, TARGETS, source, target};
 use icc_direct_tests::profiles::code_of;
-use icc_model::{Intent, direct, direct_wide};
+use icc_model::{Intent, Profile, direct, direct_wide};
 use link_build::{Converter, Link, LinkKey, build};
 use press_fault::Mem;
 use std::alloc::Global;
@@ -44,10 +44,10 @@ fn agrees(link: &Link, number: u16) -> bool {
         && link.convert(code) == direct(source, target, intent, code)
 }
 
-/// Whether all codes have the same colours by the link of two kinds as straight through both.
-fn all_agree(alloc: Global, from: u8, to: u8) -> Mem<bool> {
-    let source = Arc::new(alloc, source(alloc, from)?)?;
-    let target = Arc::new(alloc, target(alloc, to)?)?;
+/// Whether all codes have the same colours by the link of two profiles as straight through both.
+pub(crate) fn agree_through(alloc: Global, source: Profile, target: Profile) -> Mem<bool> {
+    let source = Arc::new(alloc, source)?;
+    let target = Arc::new(alloc, target)?;
     if !target.can_receive(Intent::Perceptual) {
         return Ok(false);
     }
@@ -58,6 +58,11 @@ fn all_agree(alloc: Global, from: u8, to: u8) -> Mem<bool> {
         }
     }
     Ok(true)
+}
+
+/// Whether all codes have the same colours by the link of two kinds as straight through both.
+fn all_agree(alloc: Global, from: u8, to: u8) -> Mem<bool> {
+    agree_through(alloc, source(alloc, from)?, target(alloc, to)?)
 }
 
 /// Whether all codes of a source of some kind agree, with a target of each kind.

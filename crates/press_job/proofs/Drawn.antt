@@ -1,6 +1,6 @@
 -- The bands of a page that goes by no source.
 use Rattle.std.proofs.Common.{◌≡◌, ◌<◌, ◌≤◌, ◌∙◌, ◌++◌, ap, sym, subst, refl, ℕ, List, [], ◌∷◌, map, take, length, get_or}
-use Rattle.std.proofs.Common.{Option, Some, None, arith, All, Bool, ◌+◌}
+use Rattle.std.proofs.Common.{Option, Some, None, arith, All, Bool, ◌+◌, Result, Ok, Err, IfOk}
 use Rattle.std.specs.Prelude.{◌==◌}
 use Rattle.std.specs.Prelude.{Contains}
 use Rattle.std.specs.List.{filter, filter_map, dedup, range_with_len}
@@ -20,6 +20,7 @@ use Rattle.band_writer.specs.Bands.{mark_source, needs_of, meets, band_marks}
 use Rattle.band_writer.specs.Said.{list_marks, without_number, as_said}
 use Rattle.band_writer.specs.Parts.{BandListsValue, BandListValue, PagePartsValue, IsSplit, band_cmds, band_list}
 use Rattle.list_player.specs.Playing.{SayMarks, tint_at, BandDotsValue, dots_of}
+use Rattle.page_output.specs.Sheet.{AreBandsOf}
 use Rattle.press_job.specs.Pages.{no_tint}
 use Rattle.press_job.specs.Code.Painted.{WasSplit}
 use Rattle.press_job.proofs.Plain.{all_plain}
@@ -129,3 +130,35 @@ bands_more bands dots f n so_far here = map-append (λ (b : BandDotsValue). b.do
     ∙ (ap (λ (xs : List (List ℕ)). xs ++ dots.dots ∷ []) so_far
     ∙ (ap (λ (x : List ℕ). map f (range_with_len 0 n) ++ x ∷ []) here
     ∙ sym (map-range_with_len_more f 0 n n refl)))
+
+-- lists whose depth was set are those of the split
+pub was_split : (page : PageValue) (rows : ℕ) (old new : BandListsValue) (depth : Depth) → IsSplit page rows old
+    → new ≡ record old { parts = record old.parts { depth = depth } } → WasSplit page new
+was_split page rows old new depth was is =
+    let parts : record old.parts { depth = Eight } ≡ old.parts =
+        subst (λ (p : PagePartsValue). record p { depth = Eight } ≡ p) (sym was.parts) refl in
+    let whole : record old { parts = record old.parts { depth = Eight } } ≡ old =
+        ap (λ (p : PagePartsValue). record old { parts = p }) parts in
+    subst (λ (lists : BandListsValue). WasSplit page lists) (sym is)
+    (subst (λ (band : ℕ). IsSplit page band (record old { parts = record old.parts { depth = Eight } }))
+    (sym (ap (λ (p : PagePartsValue). p.band) was.parts))
+    (subst (λ (lists : BandListsValue). IsSplit page rows lists) (sym whole) was))
+
+-- its bands have so many rows
+pub rows_set : (page : PageValue) (rows : ℕ) (old new : BandListsValue) (depth : Depth) → IsSplit page rows old
+    → new ≡ record old { parts = record old.parts { depth = depth } } → new.parts.band ≡ rows
+rows_set page rows old new depth was is =
+    ap (λ (lists : BandListsValue). lists.parts.band) is ∙ ap (λ (p : PagePartsValue). p.band) was.parts
+
+-- the bands that were drawn are those of the depth that was set
+pub bands_set : (page : PageValue) (rows : ℕ) (old new : BandListsValue) (depth : Depth) {A E : Type 0}
+    (items : A → List BandDotsValue) (answer : Result A E) → IsSplit page rows old
+    → new ≡ record old { parts = record old.parts { depth = depth } }
+    → IfOk answer (λ bands. AreBandsOf new.parts.depth no_tint page.width page.height new.parts.band page.marks (items bands))
+    → IfOk answer (λ bands. AreBandsOf depth no_tint page.width page.height rows page.marks (items bands))
+bands_set page rows old new depth items (Err _) was is drawn = tt
+bands_set page rows old new depth items (Ok bands) was is drawn =
+    subst (λ (d : Depth). AreBandsOf d no_tint page.width page.height rows page.marks (items bands))
+    (ap (λ (lists : BandListsValue). lists.parts.depth) is)
+    (subst (λ (band : ℕ). AreBandsOf new.parts.depth no_tint page.width page.height band page.marks (items bands))
+    (rows_set page rows old new depth was is) drawn)

@@ -4,7 +4,7 @@ use Rattle.std.proofs.Common.{append_assoc, length}
 use Rattle.std.proofs.lemmas.List.{append-nil}
 use Rattle.press_ports.specs.Causes.{with_piece, WritesProperFront}
 use Rattle.page_output.specs.declared.tally.Tally.{Tally}
-use Rattle.page_output.specs.Code.Taken.{HasTaken, PassesOn, FollowsSink}
+use Rattle.page_output.specs.Code.Taken.{HasTaken, PassesOn, PassesFront, FollowsSink}
 use Rattle.press_job.proofs.Fronts.{with_both, with_nothing}
 
 -- nothing was taken
@@ -60,3 +60,19 @@ follows old new before after sent passes = (sent, passes)
 pub proper_of : (old new : Option (List ℕ)) (before after : Tally) (piece : List ℕ)
     → ((n : ℕ) × (n < length piece) × PassesOn old new before after (take n piece)) → WritesProperFront old new piece
 proper_of old new before after piece h = (h.0, h.1, h.2.written)
+
+-- a text is written where the same was taken
+pub written_whole : (old new : Option (List ℕ)) (before after : Tally) (sheet text : List ℕ) → sheet ≡ text
+    → PassesOn old new before after sheet → new ≡ with_piece old text
+written_whole old new before after sheet text is passes = passes.written ∙ ap (with_piece old) is
+
+-- a front of a text is written where a front of the same was taken
+pub written_front : (old new : Option (List ℕ)) (before after : Tally) (sheet text : List ℕ) → sheet ≡ text
+    → PassesFront old new before after sheet → WritesProperFront old new text
+written_front old new before after sheet text is front = subst (λ xs. WritesProperFront old new xs) is
+    (front.0, front.1, front.2.written)
+
+-- what was taken is a front
+pub follows_front : (old new : Option (List ℕ)) (before after : Tally) (sheet : List ℕ)
+    → PassesFront old new before after sheet → FollowsSink old new before after
+follows_front old new before after sheet front = (take front.0 sheet, front.2)
