@@ -23,6 +23,7 @@ before_range from to col less = grind (arith, nat_tests)
 behind_range : (from to col : ℕ) → to ≤ col → is_in from to col ≡ false
 behind_range from to col more = grind (arith, nat_tests)
 
+-- one paint after the other is the later of both
 pub over_later : {D : Type 0} (first second : Option D) (x : D) → over second (over first x) ≡ over (later first
     second) x
 over_later first None x = refl
@@ -52,6 +53,7 @@ pub unpainted : {D : Type 0} (paint : ℕ → Option D) (xs : List D) →
     IsPainted (λ col. given_where (paint col) false) xs xs
 unpainted paint xs = record { size = refl; dots = λ col d less. refl }
 
+-- what is given where one of two tests is passed is given where the first is, and then where the second is
 pub given_later : {D : Type 0} (o : Option D) (g h : Bool) →
     given_where o (g || h) ≡ later (given_where o g) (given_where o h)
 given_later None true true = refl
@@ -195,6 +197,7 @@ pub span_more : {D : Type 0} (paint : ℕ → Option D) (spans : List SpanValue)
 span_more paint spans i span xs ys zs inside is one other =
     painted_both paint _ _ _ xs ys zs (λ col. column_more spans i col span inside is) one other
 
+-- a test of either of two and a third is one of each with it
 pub and_or : (g h o : Bool) → ((g || h) && o) ≡ ((g && o) || (h && o))
 and_or true true true = refl
 and_or true true false = refl

@@ -92,6 +92,7 @@ image_more : (regions : List RegionValue) (o : Option ImageValue) (paint : Image
 image_more regions None paint rest = refl
 image_more regions (Some image) paint rest = refl
 
+-- the marks of a command more
 pub said_more : (images : List ImageValue) (ink : Ink) (clip : BandMaskValue) (cmd : CmdValue) (cmds : List CmdValue) →
     marks_said images ink clip.regions (cmd ∷ cmds)
     ≡ cmd_marks images ink clip.regions cmd ++ marks_said images (ink_after ink cmd) (clip_after clip cmd).regions cmds
@@ -274,20 +275,21 @@ pub plays_stop : {D : Type 0} (dot : List ℕ → D) (depth : Depth) (tint : ℕ
     IsPlayed dot depth tint images whole met source clip rows ink bytes →
     HasPlayed dot depth tint images whole (met ++ option_to_list source) need clip rows ink bytes
 plays_stop dot depth tint images whole met source None clip rows ink bytes cmd count is other front played = absurd cc
-plays_stop dot depth tint images whole met source (Some s) clip rows ink bytes cmd count is other front played = record {
-  played = record {
-    shown = played.shown;
-    left = played.left;
-    parts = played.parts;
-    show = played.show;
-    cmds = played.cmds;
-    commands = played.commands;
-    are = played.are;
-    say = played.say;
-    needs = stop_needs dot depth tint images whole met source clip rows ink bytes cmd count s is other front played;
-  };
-  ended = λ none. absurd cc;
-}
+plays_stop dot depth tint images whole met source (Some s) clip rows ink bytes cmd count is other front played =
+    record {
+      played = record {
+        shown = played.shown;
+        left = played.left;
+        parts = played.parts;
+        show = played.show;
+        cmds = played.cmds;
+        commands = played.commands;
+        are = played.are;
+        say = played.say;
+        needs = stop_needs dot depth tint images whole met source clip rows ink bytes cmd count s is other front played;
+      };
+      ended = λ none. absurd cc;
+    }
 
 -- no command is left
 pub plays_end : {D : Type 0} (dot : List ℕ → D) (depth : Depth) (tint : ℕ → CodeValue → List ℕ) (images : List

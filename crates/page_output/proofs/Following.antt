@@ -84,6 +84,7 @@ both_sent (Ok _) old mid new before between after first head second is whole res
     (subst (λ xs. PassesOn old mid before between xs) is whole) rest
 both_sent (Err _) old mid new before between after first head second is whole rest = tt
 
+-- a front of both was taken where a front of the second was
 pub front_sent : {A B : Type 0} (answer : Result A B) (old mid new : Option (List ℕ)) (before between after : Tally)
     (first head second : List ℕ) → first ≡ head → PassesOn old mid before between first
     → OnErr answer (PassesFront mid new between after second)

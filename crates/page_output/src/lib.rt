@@ -1,7 +1,7 @@
 //! Pages as portable pixmaps: the header, and the dots band by band (Netpbm, PPM, binary form P6).
 //!
-//! Nothing here takes memory, so a page that was drawn is written unless a write fails. What a sink takes is counted and
-//! hashed as it is written.
+//! Nothing here takes memory, so a page that was drawn is written unless a write fails. What a sink takes is counted
+//! and hashed as it is written.
 #![tactic(auto)]
 
 mod laws;

@@ -90,8 +90,8 @@ fn greatest_text(depth: Depth) -> &'static str
     }
 }
 
-/// Writes a page of this size in dots: the header as one piece, and then the dots of each band as one piece. The tally takes
-/// in what the sink takes.
+/// Writes a page of this size in dots: the header as one piece, and then the dots of each band as one piece. The tally
+/// takes in what the sink takes.
 ///
 /// It fails only where the sink did, after a front of the page that isn't the whole.
 pub fn write_page<O: Sink>(

@@ -1,5 +1,5 @@
 -- The bands of a page that goes by no source.
-use Rattle.std.proofs.Common.{◌≡◌, ◌<◌, ◌≤◌, ◌∙◌, ◌++◌, ap, sym, subst, refl, ℕ, List, [], ◌∷◌, map, take, length, get_or}
+use Rattle.std.proofs.Common.{◌≡◌, ◌<◌, ◌≤◌, ◌∙◌, ◌++◌, ap, sym, subst, refl, ℕ, List, [], ◌∷◌, map, length, get_or}
 use Rattle.std.proofs.Common.{Option, Some, None, arith, All, Bool, ◌+◌, Result, Ok, Err, IfOk}
 use Rattle.std.specs.Prelude.{◌==◌}
 use Rattle.std.specs.Prelude.{Contains}
@@ -20,7 +20,7 @@ use Rattle.band_writer.specs.Bands.{mark_source, needs_of, meets, band_marks}
 use Rattle.band_writer.specs.Said.{list_marks, without_number, as_said}
 use Rattle.band_writer.specs.Parts.{BandListsValue, BandListValue, PagePartsValue, IsSplit, band_cmds, band_list}
 use Rattle.list_player.specs.Playing.{SayMarks, tint_at, BandDotsValue, dots_of}
-use Rattle.page_output.specs.Sheet.{AreBandsOf}
+use Rattle.page_output.specs.Sheet.{AreBandsOf, dots_in}
 use Rattle.press_job.specs.Pages.{no_tint}
 use Rattle.press_job.specs.Code.Painted.{WasSplit}
 use Rattle.press_job.proofs.Plain.{all_plain}
@@ -73,8 +73,8 @@ pub list_here : (page : PageValue) (lists : BandListsValue) (band : ℕ) (list d
 list_here page lists band list d was less is =
     let count = list_count page lists was in
     is ∙ (ap (λ (all : List BandListValue). get_or all band d) was.lists
-    ∙ get_or-map-range_with_len (band_list page lists.parts.band) 0 (band_count page.height lists.parts.band) band band d
-    (let l : band < length lists.lists = less in let c = count in omega (arith, l, c)) refl)
+    ∙ get_or-map-range_with_len (band_list page lists.parts.band) 0 (band_count page.height lists.parts.band) band band
+    d (let l : band < length lists.lists = less in let c = count in omega (arith, l, c)) (omega arith))
 
 -- it says the marks of the split
 pub said_here : (page : PageValue) (lists : BandListsValue) (band : ℕ) (list : BandListValue) → WasSplit page lists
@@ -89,7 +89,8 @@ said_here page lists band list was less is = record {
 }
 
 -- the marks that it says go by no source where those of the page don't
-pub known_here : (images : List ImageValue) (bytes : List ℕ) (page : PageValue) (rows band : ℕ) (cmds marks : List MarkValue)
+pub known_here : (images : List ImageValue) (bytes : List ℕ) (page : PageValue) (rows band : ℕ)
+    (cmds marks : List MarkValue)
     → ((a b : List MarkValue) → SayMarks images bytes a → SayMarks images bytes b → a ≡ b)
     → SayMarks images bytes cmds → cmds ≡ map without_number (band_marks page.height rows band page.marks)
     → All (HasKnownSource 0) page.marks → SayMarks images bytes marks → All (HasKnownSource 0) marks
@@ -124,41 +125,84 @@ dots_here dots page lists band list marks was is drawn same =
 
 -- one band more
 pub bands_more : (bands : List BandDotsValue) (dots : BandDotsValue) (f : ℕ → List ℕ) (n : ℕ)
-    → map (λ (b : BandDotsValue). b.dots) bands ≡ map f (range_with_len 0 n) → dots.dots ≡ f n
-    → map (λ (b : BandDotsValue). b.dots) (bands ++ dots ∷ []) ≡ map f (range_with_len 0 (n + 1))
-bands_more bands dots f n so_far here = map-append (λ (b : BandDotsValue). b.dots) bands (dots ∷ [])
+    → map dots_in bands ≡ map f (range_with_len 0 n) → dots.dots ≡ f n
+    → map dots_in (bands ++ dots ∷ []) ≡ map f (range_with_len 0 (n + 1))
+bands_more bands dots f n so_far here = map-append dots_in bands (dots ∷ [])
     ∙ (ap (λ (xs : List (List ℕ)). xs ++ dots.dots ∷ []) so_far
     ∙ (ap (λ (x : List ℕ). map f (range_with_len 0 n) ++ x ∷ []) here
-    ∙ sym (map-range_with_len_more f 0 n n refl)))
+    ∙ sym (map-range_with_len_more f 0 n n (omega arith))))
 
--- lists whose depth was set are those of the split
-pub was_split : (page : PageValue) (rows : ℕ) (old new : BandListsValue) (depth : Depth) → IsSplit page rows old
-    → new ≡ record old { parts = record old.parts { depth = depth } } → WasSplit page new
-was_split page rows old new depth was is =
-    let parts : record old.parts { depth = Eight } ≡ old.parts =
-        subst (λ (p : PagePartsValue). record p { depth = Eight } ≡ p) (sym was.parts) refl in
-    let whole : record old { parts = record old.parts { depth = Eight } } ≡ old =
-        ap (λ (p : PagePartsValue). record old { parts = p }) parts in
-    subst (λ (lists : BandListsValue). WasSplit page lists) (sym is)
-    (subst (λ (band : ℕ). IsSplit page band (record old { parts = record old.parts { depth = Eight } }))
-    (sym (ap (λ (p : PagePartsValue). p.band) was.parts))
-    (subst (λ (lists : BandListsValue). IsSplit page rows lists) (sym whole) was))
+-- a page's marks go by no source
+pub page_plain : (p page : PageValue) → p ≡ page → IsPage p.width p.height p.sources p.marks → page.sources ≤ 0
+    → All (HasKnownSource 0) page.marks
+page_plain p page is kept none =
+    let sources : p.sources ≡ 0 = let n : page.sources ≤ 0 = none in
+    let e = ap (λ (q : PageValue). q.sources) is in omega (arith, n, e) in
+    subst (λ (q : PageValue). All (HasKnownSource 0) q.marks) is
+    (subst (λ (n : ℕ). All (HasKnownSource n) p.marks) sources kept.known)
 
--- its bands have so many rows
-pub rows_set : (page : PageValue) (rows : ℕ) (old new : BandListsValue) (depth : Depth) → IsSplit page rows old
-    → new ≡ record old { parts = record old.parts { depth = depth } } → new.parts.band ≡ rows
-rows_set page rows old new depth was is =
-    ap (λ (lists : BandListsValue). lists.parts.band) is ∙ ap (λ (p : PagePartsValue). p.band) was.parts
+-- and those of one clip number have one clip
+pub page_numbered : (p page : PageValue) → p ≡ page → IsPage p.width p.height p.sources p.marks
+    → HaveNumberedClips page.marks
+page_numbered p page is kept = subst (λ (q : PageValue). HaveNumberedClips q.marks) is kept.numbered
 
--- the bands that were drawn are those of the depth that was set
-pub bands_set : (page : PageValue) (rows : ℕ) (old new : BandListsValue) (depth : Depth) {A E : Type 0}
-    (items : A → List BandDotsValue) (answer : Result A E) → IsSplit page rows old
-    → new ≡ record old { parts = record old.parts { depth = depth } }
-    → IfOk answer (λ bands. AreBandsOf new.parts.depth no_tint page.width page.height new.parts.band page.marks (items bands))
-    → IfOk answer (λ bands. AreBandsOf depth no_tint page.width page.height rows page.marks (items bands))
-bands_set page rows old new depth items (Err _) was is drawn = tt
-bands_set page rows old new depth items (Ok bands) was is drawn =
-    subst (λ (d : Depth). AreBandsOf d no_tint page.width page.height rows page.marks (items bands))
-    (ap (λ (lists : BandListsValue). lists.parts.depth) is)
-    (subst (λ (band : ℕ). AreBandsOf new.parts.depth no_tint page.width page.height band page.marks (items bands))
-    (rows_set page rows old new depth was is) drawn)
+-- the band is one of the page
+pub band_few : (page : PageValue) (lists : BandListsValue) (band : ℕ) (list d : BandListValue) (parts : PagePartsValue)
+    → WasSplit page lists → band < length lists.lists → list ≡ get_or lists.lists band d → parts ≡ lists.parts
+    → list.band < band_count parts.height parts.band
+band_few page lists band list d parts was less is same =
+    let here : list.band ≡ band = ap (λ (l : BandListValue). l.band) (list_here page lists band list d was less is) in
+    let height : parts.height ≡ page.height = ap (λ (p : PagePartsValue). p.height) same
+    ∙ ap (λ (p : PagePartsValue). p.height) was.parts in
+    let rows : parts.band ≡ lists.parts.band = ap (λ (p : PagePartsValue). p.band) same in
+    let few : band < band_count page.height lists.parts.band =
+    subst (λ (n : ℕ). band < n) (list_count page lists was) less in
+    subst (λ (b : ℕ). b < band_count parts.height parts.band) (sym here)
+    (subst (λ (h : ℕ). band < band_count h parts.band) (sym height)
+    (subst (λ (r : ℕ). band < band_count page.height r) (sym rows) few))
+
+-- the marks that its list says go by no source
+pub known_marks : (page : PageValue) (lists : BandListsValue) (band : ℕ) (list d : BandListValue)
+    (parts : PagePartsValue) → WasSplit page lists → band < length lists.lists → list ≡ get_or lists.lists band d
+    → parts ≡ lists.parts → All (HasKnownSource 0) page.marks
+    → list_marks lists.parts.images (band_cmds page lists.parts.band band)
+    ≡ map without_number (band_marks page.height lists.parts.band band page.marks)
+    → ((images : List ImageValue) (bytes : List ℕ) (a b : List MarkValue) → SayMarks images bytes a
+    → SayMarks images bytes b → a ≡ b)
+    → (marks : List MarkValue) → SayMarks parts.images list.bytes marks → All (HasKnownSource 0) marks
+known_marks page lists band list d parts was less is same known are once marks other =
+    let here = list_here page lists band list d was less is in
+    known_here lists.parts.images list.bytes page lists.parts.band band
+    (list_marks lists.parts.images (band_cmds page lists.parts.band band)) marks (once lists.parts.images list.bytes)
+    (said_here page lists band list was less here) are known
+    (subst (λ (p : PagePartsValue). SayMarks p.images list.bytes marks) same other)
+
+-- what was drawn of a band is the page's
+pub drawn_here : {E : Type 0} (answer : Result BandDotsValue E) (page : PageValue) (lists : BandListsValue) (band : ℕ)
+    (list d : BandListValue) (parts : PagePartsValue) → WasSplit page lists → band < length lists.lists
+    → list ≡ get_or lists.lists band d → parts ≡ lists.parts
+    → ((marks : List MarkValue) → SayMarks parts.images list.bytes marks
+    → IfOk answer (λ dots. dots ≡ dots_of (tint_at parts.depth no_tint no_tint) parts list.band marks))
+    → band_text lists.parts.depth no_tint page.width page.height lists.parts.band
+    (list_marks lists.parts.images (band_cmds page lists.parts.band band)) band
+    ≡ band_text lists.parts.depth no_tint page.width page.height lists.parts.band page.marks band
+    → IfOk answer (λ dots. dots.dots
+    ≡ band_text lists.parts.depth no_tint page.width page.height lists.parts.band page.marks band)
+drawn_here (Err _) page lists band list d parts was less is same drawn paints = tt
+drawn_here (Ok dots) page lists band list d parts was less is same drawn paints =
+    let here = list_here page lists band list d was less is in
+    let said = said_here page lists band list was less here in
+    let marks = list_marks lists.parts.images (band_cmds page lists.parts.band band) in
+    dots_here dots page lists band list marks was here
+    (subst (λ (p : PagePartsValue). dots ≡ dots_of (tint_at p.depth no_tint no_tint) p list.band marks) same
+    (drawn marks (subst (λ (p : PagePartsValue). SayMarks p.images list.bytes marks) (sym same) said))) paints
+
+-- all bands are drawn
+pub bands_all : (page : PageValue) (lists : BandListsValue) (bands : List BandDotsValue) (n : ℕ)
+    → WasSplit page lists → n ≡ length lists.lists
+    → map dots_in bands ≡ map (band_text lists.parts.depth no_tint page.width page.height lists.parts.band page.marks)
+    (range_with_len 0 n)
+    → AreBandsOf lists.parts.depth no_tint page.width page.height lists.parts.band page.marks bands
+bands_all page lists bands n was is drawn = drawn
+    ∙ ap (λ (count : ℕ). map (band_text lists.parts.depth no_tint page.width page.height lists.parts.band page.marks)
+    (range_with_len 0 count)) (is ∙ list_count page lists was)

@@ -1,5 +1,5 @@
 //! What a run does with what the words ask for.
-ghost use Rattle.std.specs.Prelude.{◌≡◌, None, IfSome, OnErr};
+ghost use Rattle.std.specs.Prelude.{◌≡◌, ◌<◌, None, IfSome, OnErr};
 ghost use Rattle.std.specs.Option.{option_map};
 ghost use Rattle.press_job.specs.Asked.{asked_of, asked_by, is_built, is_sample, source_of, setup_of, depth_of};
 ghost use Rattle.press_job.specs.Code.Seen.{seen, seen_source};
@@ -49,7 +49,8 @@ impl<'a> Asked<'a> {
 
 /// What the words ask for, `None` exactly where they aren't in the grammar or ask for what isn't built.
 pub(crate) fn asked_of(words: &Words) -> Option<Asked<'_>>
-    ensures { option_map seen result ≡ asked_of words.now }
+    ensures value { option_map seen result ≡ asked_of words.now }
+    ensures rows { IfSome result (λ asked. 0 < asked.band) }
 {
     match Options::read(words) {
         Ok(options) => asked_by(&options),
@@ -59,7 +60,8 @@ pub(crate) fn asked_of(words: &Words) -> Option<Asked<'_>>
 
 /// What options ask for, `None` where it isn't built.
 fn asked_by<'a>(options: &Options<'a>) -> Option<Asked<'a>>
-    ensures { option_map seen result ≡ asked_by options.now }
+    ensures value { option_map seen result ≡ asked_by options.now }
+    ensures rows { IfSome result (λ asked. 0 < asked.band) }
 {
     if !is_built(options) {
         return None;
