@@ -237,6 +237,18 @@ one_more met whole left s need same needs =
     let some : length (needs_from (Some s) left) ≡ length (s ∷ first.rest) = ap length first.is in
     omega (arith, long, parts, some)
 
+-- where there are no needs, none waits
+pub waits_none : (met : List ℕ) (need : Option ℕ) (whole left : List MarkValue) → needs_of whole ≡ [] →
+    needs_of whole ≡ met ++ needs_from need left → need ≡ None
+waits_none met None whole left none needs = refl
+waits_none met (Some s) whole left none needs =
+    let first = begins s (filter_map mark_source left) in
+    let empty : [] ≡ met ++ needs_from (Some s) left = sym none ∙ needs in
+    let long : 0 ≡ length (met ++ needs_from (Some s) left) = ap length empty in
+    let parts = length-append met (needs_from (Some s) left) in
+    let some : length (needs_from (Some s) left) ≡ length (s ∷ first.rest) = ap length first.is in
+    absurd (let e : ⊥ = omega (arith, long, parts, some) in e)
+
 -- where no mark is left all needs were met
 all_met : (met : List ℕ) (whole left : List MarkValue) → left ≡ [] → needs_of whole ≡ met ++ needs_from None left →
     needs_of whole ≡ met

@@ -19,4 +19,4 @@ mod rows;
 pub use colours::{Colours, Lent};
 pub use dots::BandDots;
 pub use laws::bytes_say_their_marks_once;
-pub use playing::play;
+pub use playing::{play, play_plain};

@@ -72,6 +72,41 @@ pub fn play<C: Colours>(
     }
 }
 
+/// Draws a band of a page from its list, where no mark of it goes by a source. The list and the parts are of one split;
+/// the depth is that of the parts.
+pub fn play_plain(alloc: Global, list: &BandList, parts: &PageParts) -> Mem<BandDots>
+    requires rows { 0 < parts.now.band }
+    requires band { list.now.band < band_count parts.now.height parts.now.band }
+    requires plain { (marks : List MarkValue) → SayMarks parts.now.images list.now.bytes marks →
+        needs_of marks ≡ [] }
+    ensures { (colour wide : ℕ → CodeValue → List ℕ) (marks : List MarkValue) →
+        SayMarks parts.now.images list.now.bytes marks →
+        IfOk result (λ dots. dots ≡ dots_of (tint_at parts.now.depth colour wide) parts.now list.now.band marks) }
+{
+    match parts.depth {
+        Depth::Eight => plain_at::<[u8; 3]>(alloc, list, parts),
+        Depth::Sixteen => plain_at::<[u8; 6]>(alloc, list, parts),
+    }
+}
+
+/// Draws a band whose marks go by no source, at the depth of a kind of dot.
+fn plain_at<T: Dot>(alloc: Global, list: &BandList, parts: &PageParts) -> Mem<BandDots>
+    requires rows { 0 < parts.now.band }
+    requires band { list.now.band < band_count parts.now.height parts.now.band }
+    requires depth { parts.now.depth ≡ T.depth }
+    requires plain { (marks : List MarkValue) → SayMarks parts.now.images list.now.bytes marks →
+        needs_of marks ≡ [] }
+    ensures { (colour wide : ℕ → CodeValue → List ℕ) (marks : List MarkValue) →
+        SayMarks parts.now.images list.now.bytes marks →
+        IfOk result (λ dots. dots ≡ dots_of (tint_at parts.now.depth colour wide) parts.now list.now.band marks) }
+{
+    let band = list.band();
+    let mut playing = Playing::<T>::new(alloc, parts, band)?;
+    playing.play_unlinked(parts.images.items(), list.bytes())?;
+    let dots = playing.finish(alloc, band)?;
+    Ok(dots)
+}
+
 /// Draws a band at the depth of a kind of dot.
 fn play_at<T: Dot, C: Colours>(
     alloc: Global,
@@ -189,6 +224,27 @@ impl<T: Dot> Playing<T> {
             colours.give_back(loan);
             rest = ran?;
         }
+        Ok(())
+    }
+
+    /// Plays a list whose marks go by no source, from its beginning, over white rows.
+    fn play_unlinked(&mut self, images: &[Arc<Image>], bytes: &[u8]) -> Mem<()>
+        requires band { IsBand self.old.band.clip self.old.band.rows.items }
+        requires white { (tint : ℕ → CodeValue → List ℕ) → ShowMarks T.dot T.depth tint self.old.band.clip.width
+            self.old.band.clip.first self.old.band.clip.rows [] self.old.band.rows.items }
+        requires clip { self.old.band.clip.regions ≡ [] }
+        requires ink { self.old.ink ≡ opening.ink }
+        requires need { self.old.need ≡ None }
+        requires spellings { AreSpellings bytes.now }
+        requires plain { (marks : List MarkValue) → SayMarks (map arc_value images.now) bytes.now marks →
+            needs_of marks ≡ [] }
+        ensures shown { (tint : ℕ → CodeValue → List ℕ) (marks : List MarkValue) →
+            SayMarks (map arc_value images.now) bytes.now marks → OnOk result (ShowMarks T.dot T.depth tint
+            self.old.band.clip.width self.old.band.clip.first self.old.band.clip.rows marks self.new.band.rows.items) }
+        ensures clip { OnOk result (self.new.band.clip
+            ≡ record self.old.band.clip { regions = self.new.band.clip.regions }) }
+    {
+        self.run(images, bytes, &Unlinked)?;
         Ok(())
     }
 

@@ -23,7 +23,6 @@ use Rattle.list_player.specs.Playing.{SayMarks, tint_at, BandDotsValue, dots_of}
 use Rattle.page_output.specs.Sheet.{AreBandsOf, dots_in}
 use Rattle.press_job.specs.Pages.{no_tint}
 use Rattle.press_job.specs.Code.Painted.{WasSplit}
-use Rattle.press_job.proofs.Plain.{all_plain}
 
 -- at both depths no source gives no colour
 pub no_tint_at : (depth : Depth) → tint_at depth no_tint no_tint ≡ no_tint
@@ -97,12 +96,6 @@ pub known_here : (images : List ImageValue) (bytes : List ℕ) (page : PageValue
 known_here images bytes page rows band cmds marks once said are known other =
     subst (λ (ms : List MarkValue). All (HasKnownSource 0) ms) (sym are ∙ once cmds marks said other)
     (said_plain (meets page.height rows band) page.marks known)
-
--- so they need nothing that isn't there
-pub needs_here : (marks : List MarkValue) → All (HasKnownSource 0) marks
-    → All (λ source. Contains [] source) (needs_of marks)
-needs_here marks h = subst (λ (sources : List ℕ). All (λ source. Contains [] source) sources)
-    (sym (none_needed marks h)) (All-nil (λ source. Contains [] source))
 
 -- the dots of a band are those of the page
 pub dots_here : (dots : BandDotsValue) (page : PageValue) (lists : BandListsValue) (band : ℕ) (list : BandListValue)

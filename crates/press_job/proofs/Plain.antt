@@ -24,8 +24,7 @@ painting_plain (Masked image ink) h = ink_plain ink h
 mark_plain : (mark : MarkValue) → HasKnownSource 0 mark → HasChannels (λ _. 3) mark
 mark_plain mark h = painting_plain mark.paint h
 
--- marks without a source have the channels of any
-pub all_plain : (marks : List MarkValue) → All (HasKnownSource 0) marks → All (HasChannels (λ _. 3)) marks
+all_plain : (marks : List MarkValue) → All (HasKnownSource 0) marks → All (HasChannels (λ _. 3)) marks
 all_plain marks h = All-weaker (HasKnownSource 0) (HasChannels (λ _. 3)) mark_plain marks h
 
 -- a page that goes by no source can be drawn with no profile

@@ -3,7 +3,7 @@ use Rattle.press_job.proofs.Fronts.{with_nothing}
 use Rattle.press_job.proofs.reporting.press_one.Goals as goal
 
 pub returns-in-None-clause-lines : goal.returns-in-None-clause-lines
-returns-in-None-clause-lines g c = rw (← c.in-None.ensures) (record {
+returns-in-None-clause-lines g c = rw (← c.in-None.ensures.value) (record {
   taken = [];
   took = with_nothing _;
   front = c.tell.ensures.front;
