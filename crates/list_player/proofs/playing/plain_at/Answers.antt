@@ -27,7 +27,8 @@ returns g c =
     c.play_unlinked.new.self.band.clip marks c.play_unlinked.new.self.band.rows.items c.in_ok-dots.dots
     g.T.Dot.bytes_of_dot
     c.requires.depth c.in_ok-playing.ensures.clip c.in_ok-play_unlinked.ensures.clip
-    (c.in_ok-play_unlinked.ensures.shown (tint_at g.T.Dot.depth colour wide) marks (says_of (map arc_value c.items.result.now)
+    (c.in_ok-play_unlinked.ensures.shown (tint_at g.T.Dot.depth colour wide) marks
+    (says_of (map arc_value c.items.result.now)
     c.args.parts.now.images c.bytes.result.now c.args.list.now.bytes marks same (sym c.bytes.ensures.value) says))
     c.in_ok-dots.ensures
     ∙ ap (λ n. dots_of (tint_at c.args.parts.now.depth colour wide) c.args.parts.now n marks) c.band-band.ensures
