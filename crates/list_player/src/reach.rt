@@ -87,7 +87,10 @@ fn end_row(bottom: Wide, count: u32) -> u32
     requires { unsigned_abs bottom < 2 ^ 65 }
     ensures { IsEndRow bottom count result }
 {
-    row_within((bottom + Wide::of(128)).floor_quotient(Wide::of(256)), count)
+    row_within(
+        (bottom + Wide::of(128)).floor_quotient(Wide::of(256)),
+        count,
+    )
 }
 
 /// The number nearest to this one from 0 to the count.

@@ -1,4 +1,4 @@
-use Rattle.std.proofs.Common.{◌≡◌, ◌∙◌, ap, sym, subst, ◌+◌, ◌-◌, ◌<◌, length, get_or, [], arith}
+use Rattle.std.proofs.Common.{◌∙◌, ap, sym, subst, ◌+◌, ◌-◌, ◌<◌, length, get_or, [], arith}
 use Rattle.std.proofs.lemmas.List.{get_or_default}
 use Rattle.list_player.proofs.Bands.{rows_more, next_wide, within_range, walk_row, with_one, at_next}
 use Rattle.list_player.proofs.rows.put_walk.Goals as goal
