@@ -5,3 +5,4 @@ mod Counts
 mod Steps
 mod Plays
 mod Lists
+mod Reached

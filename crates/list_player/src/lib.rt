@@ -13,6 +13,7 @@ mod laws;
 mod memo;
 mod picture;
 mod playing;
+mod reach;
 mod row;
 mod rows;
 

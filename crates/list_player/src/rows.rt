@@ -1,12 +1,14 @@
 //! The dots of a band, row by row.
-ghost use Rattle.std.specs.Prelude.{◌≡◌, ◌+◌, ◌<◌, ◌≤◌, ◌^◌, ◌&&◌, length, replicate, OnOk, IfOk, Some};
+ghost use Rattle.std.specs.Prelude.{◌≡◌, ◌+◌, ◌-◌, ◌<◌, ◌≤◌, ◌^◌, ◌&&◌, length, replicate, OnOk, IfOk, Some};
 ghost use Rattle.std.specs.List.{list_any};
 ghost use Rattle.page_model.specs.Cover.{shape_holds};
 ghost use Rattle.geo_fill.specs.Walk.{Walks};
 ghost use Rattle.geo_clip.specs.Mask.{is_open};
 ghost use Rattle.list_player.specs.Painting.{given_where, ArePainted, IsBand};
+ghost use Rattle.list_player.specs.Code.Reach.{IsReached};
 
 use crate::clip::BandClip;
+use crate::reach::{Rows, rows_reached};
 use crate::row::{DotRow, InkRow};
 use geo_fill::{EdgeWalk, Spans};
 use page_model::{Rule, Shape};
@@ -76,7 +78,17 @@ fn put_shape<T: Copy>(
         (shape_holds rule row col shape.now && is_open clip.now.regions row col)) rows.old.items rows.new.items) }
     ensures same { ink.new ≡ ink.old }
 {
-    room.walk.restart(shape, rule, clip.first(), clip.rows())?;
+    let first = clip.first();
+    let reached = rows_reached(shape, first, clip.rows());
+    if reached.skip == reached.end {
+        return Ok(());
+    }
+    room.walk.restart(
+        shape,
+        rule,
+        first + reached.skip,
+        reached.end - reached.skip,
+    )?;
     put_walk(
         rows,
         &mut room.walk,
@@ -85,13 +97,13 @@ fn put_shape<T: Copy>(
         rule,
         clip,
         clip.width(),
-        clip.first(),
-        clip.rows(),
+        first,
+        reached,
         ink,
     )
 }
 
-/// Paints one shape along a walk over it.
+/// Paints one shape along a walk over the rows that it reaches.
 fn put_walk<T: Copy>(
     rows: &mut Vec<DotRow<T>>,
     walk: &mut EdgeWalk,
@@ -101,19 +113,21 @@ fn put_walk<T: Copy>(
     clip: &BandClip,
     width: u32,
     first: u32,
-    count: u32,
+    reached: Rows,
     ink: &mut InkRow<T>,
 ) -> Mem<()>
     requires band { IsBand clip.now rows.old.items }
     requires width { clip.now.width ≡ width }
     requires first { clip.now.first ≡ first }
-    requires count { clip.now.rows ≡ count }
-    requires walks { Walks shape.now rule first count walk.old }
-    ensures ok { OnOk result (ArePainted first count (λ row col. given_where (Some ink.old)
+    requires order { reached.skip ≤ reached.end }
+    requires within { reached.end ≤ clip.now.rows }
+    requires outside { IsReached shape.now first clip.now.rows reached.skip reached.end }
+    requires walks { Walks shape.now rule (first + reached.skip) (reached.end - reached.skip) walk.old }
+    ensures ok { OnOk result (ArePainted first clip.now.rows (λ row col. given_where (Some ink.old)
         (shape_holds rule row col shape.now && is_open clip.now.regions row col)) rows.old.items rows.new.items) }
     ensures same { ink.new ≡ ink.old }
 {
-    for i in 0..count {
+    for i in reached.skip..reached.end {
         walk.next_row(0, width, spans)?;
         let row = &mut rows[i as usize];
         clip.put(row, spans.items(), first + i, ink)?;
