@@ -1,5 +1,5 @@
--- The bands of a page of two sources.
-use Rattle.std.proofs.Common.{◌≡◌, ◌<◌, ◌≤◌, ◌∙◌, ap, sym, subst, refl, ℕ, List, [], ◌∷◌, map, length, get_or}
+-- The bands of a page of three sources.
+use Rattle.std.proofs.Common.{◌≡◌, ◌<◌, ◌∙◌, ap, sym, subst, refl, ℕ, List, [], ◌∷◌, map, length, get_or}
 use Rattle.std.proofs.Common.{Option, Some, None, arith, All, Bool, true, false, zero, suc}
 use Rattle.std.specs.Prelude.{◌==◌, Contains, cond}
 use Rattle.std.specs.List.{filter, filter_map, cons_option, dedup, dedup_from}
@@ -15,62 +15,59 @@ use Rattle.band_writer.specs.Said.{list_marks, without_number, as_said}
 use Rattle.band_writer.specs.Parts.{BandListsValue, BandListValue, PagePartsValue, band_cmds, band_list}
 use Rattle.list_player.specs.Playing.{SayMarks}
 use Rattle.list_player_tests.specs.Tints.{channels_of}
-use Rattle.list_player_tests.specs.Lists.{IsTinted, WasSplit}
+use Rattle.list_player_tests.specs.Lists.{WasSplit}
 
--- a source that may be lent
-IsLent : ℕ → Type 0
-IsLent source = Contains (0 ∷ 1 ∷ []) source
-
--- both may
-both_lent : (source : ℕ) → source < 2 → Contains (0 ∷ 1 ∷ []) source
-both_lent zero h = (0, omega arith, refl)
-both_lent (suc zero) h = (1, omega arith, refl)
-both_lent (suc (suc n)) h = absurd (let less : suc (suc n) < 2 = h in omega (arith, less))
+-- each source may be lent
+each_lent : (source : ℕ) → source < 3 → Contains (0 ∷ 1 ∷ 2 ∷ []) source
+each_lent zero h = (0, omega arith, refl)
+each_lent (suc zero) h = (1, omega arith, refl)
+each_lent (suc (suc zero)) h = (2, omega arith, refl)
+each_lent (suc (suc (suc n))) h = absurd (let less : suc (suc (suc n)) < 3 = h in omega (arith, less))
 
 -- the source of a mark ahead of others
-one_more : (source : Option ℕ) (rest : List ℕ) → IsNumbered 2 source → All (λ s. s < 2) rest
-    → All (λ s. s < 2) (cons_option source rest)
+one_more : (source : Option ℕ) (rest : List ℕ) → IsNumbered 3 source → All (λ s. s < 3) rest
+    → All (λ s. s < 3) (cons_option source rest)
 one_more None rest h all = all
-one_more (Some source) rest h all = All-cons (λ s. s < 2) source rest h all
+one_more (Some source) rest h all = All-cons (λ s. s < 3) source rest h all
 
 -- the sources of marks
-sources_of : (marks : List MarkValue) → All (HasKnownSource 2) marks
-    → All (λ s. s < 2) (filter_map mark_source marks)
-sources_of [] h = All-nil (λ s. s < 2)
+sources_of : (marks : List MarkValue) → All (HasKnownSource 3) marks
+    → All (λ s. s < 3) (filter_map mark_source marks)
+sources_of [] h = All-nil (λ s. s < 3)
 sources_of (mark ∷ marks) h = one_more (mark_source mark) (filter_map mark_source marks)
-    (All-head (HasKnownSource 2) mark marks h) (sources_of marks (All-tail (HasKnownSource 2) mark marks h))
+    (All-head (HasKnownSource 3) mark marks h) (sources_of marks (All-tail (HasKnownSource 3) mark marks h))
 
 -- one of them, and those behind it that aren't the one before
-picked : (same : Bool) (first : ℕ) (kept others : List ℕ) → first < 2 → All (λ s. s < 2) kept
-    → All (λ s. s < 2) others → All (λ s. s < 2) (cond same kept (first ∷ others))
+picked : (same : Bool) (first : ℕ) (kept others : List ℕ) → first < 3 → All (λ s. s < 3) kept
+    → All (λ s. s < 3) others → All (λ s. s < 3) (cond same kept (first ∷ others))
 picked true first kept others h a b = a
-picked false first kept others h a b = All-cons (λ s. s < 2) first others h b
+picked false first kept others h a b = All-cons (λ s. s < 3) first others h b
 
 -- what is left of them from one on
-left_from : (first : ℕ) (sources : List ℕ) → first < 2 → All (λ s. s < 2) sources
-    → All (λ s. s < 2) (dedup_from ◌==◌ first sources)
-left_from first [] h all = All-cons (λ s. s < 2) first [] h (All-nil (λ s. s < 2))
+left_from : (first : ℕ) (sources : List ℕ) → first < 3 → All (λ s. s < 3) sources
+    → All (λ s. s < 3) (dedup_from ◌==◌ first sources)
+left_from first [] h all = All-cons (λ s. s < 3) first [] h (All-nil (λ s. s < 3))
 left_from first (x ∷ xs) h all =
-    let here = All-head (λ s. s < 2) x xs all in
-    let rest = All-tail (λ s. s < 2) x xs all in
+    let here = All-head (λ s. s < 3) x xs all in
+    let rest = All-tail (λ s. s < 3) x xs all in
     picked (x == first) first (dedup_from ◌==◌ first xs) (dedup_from ◌==◌ x xs) h (left_from first xs h rest)
     (left_from x xs here rest)
 
 -- what is left of them
-left_of : (sources : List ℕ) → All (λ s. s < 2) sources → All (λ s. s < 2) (dedup ◌==◌ sources)
-left_of [] all = All-nil (λ s. s < 2)
-left_of (x ∷ xs) all = left_from x xs (All-head (λ s. s < 2) x xs all) (All-tail (λ s. s < 2) x xs all)
+left_of : (sources : List ℕ) → All (λ s. s < 3) sources → All (λ s. s < 3) (dedup ◌==◌ sources)
+left_of [] all = All-nil (λ s. s < 3)
+left_of (x ∷ xs) all = left_from x xs (All-head (λ s. s < 3) x xs all) (All-tail (λ s. s < 3) x xs all)
 
--- marks of the two sources need no other
-pub needs_here : (marks : List MarkValue) → All (HasKnownSource 2) marks
-    → All (λ source. Contains (0 ∷ 1 ∷ []) source) (needs_of marks)
+-- marks of the three sources need no other
+pub needs_here : (marks : List MarkValue) → All (HasKnownSource 3) marks
+    → All (λ source. Contains (0 ∷ 1 ∷ 2 ∷ []) source) (needs_of marks)
 unfolding needs_of
-needs_here marks h = All-weaker (λ s. s < 2) (λ source. Contains (0 ∷ 1 ∷ []) source) both_lent
+needs_here marks h = All-weaker (λ s. s < 3) (λ source. Contains (0 ∷ 1 ∷ 2 ∷ []) source) each_lent
     (dedup ◌==◌ (filter_map mark_source marks)) (left_of (filter_map mark_source marks) (sources_of marks h))
 
 -- a mark as its paint has it said goes by the source of the paint
-said_source : (mark : MarkValue) (paint : PaintValue) → IsNumbered 2 (painting_source paint)
-    → HasKnownSource 2 (as_said mark paint)
+said_source : (mark : MarkValue) (paint : PaintValue) → IsNumbered 3 (painting_source paint)
+    → HasKnownSource 3 (as_said mark paint)
 said_source mark (Flatly ink) h = h
 said_source mark (Pictured image) h = h
 said_source mark (Masked image ink) h = h
@@ -83,12 +80,12 @@ said_channels mark (Pictured image) h = h
 said_channels mark (Masked image ink) h = h
 
 -- the marks of a band as they are said go by known sources
-known_said : (holds : MarkValue → Bool) (marks : List MarkValue) → All (HasKnownSource 2) marks
-    → All (HasKnownSource 2) (map without_number (filter holds marks))
-known_said holds marks h = All-map (HasKnownSource 2) without_number (filter holds marks)
-    (All-weaker (HasKnownSource 2) (λ (mark : MarkValue). HasKnownSource 2 (without_number mark))
+known_said : (holds : MarkValue → Bool) (marks : List MarkValue) → All (HasKnownSource 3) marks
+    → All (HasKnownSource 3) (map without_number (filter holds marks))
+known_said holds marks h = All-map (HasKnownSource 3) without_number (filter holds marks)
+    (All-weaker (HasKnownSource 3) (λ (mark : MarkValue). HasKnownSource 3 (without_number mark))
     (λ mark known. said_source mark mark.paint known) (filter holds marks)
-    (All-filter holds (HasKnownSource 2) marks h))
+    (All-filter holds (HasKnownSource 3) marks h))
 
 -- and have their channels
 channels_said : (holds : MarkValue → Bool) (marks : List MarkValue) → All (HasChannels channels_of) marks
@@ -126,11 +123,11 @@ said_here page lists band list was less is = record {
 }
 
 -- a page's marks go by its sources
-pub page_known : (p page : PageValue) → p ≡ page → IsPage p.width p.height p.sources p.marks → page.sources ≡ 2
-    → All (HasKnownSource 2) page.marks
-page_known p page is kept two =
-    let sources : p.sources ≡ 2 = ap (λ (q : PageValue). q.sources) is ∙ two in
-    subst (λ (q : PageValue). All (HasKnownSource 2) q.marks) is
+pub page_known : (p page : PageValue) → p ≡ page → IsPage p.width p.height p.sources p.marks → page.sources ≡ 3
+    → All (HasKnownSource 3) page.marks
+page_known p page is kept three =
+    let sources : p.sources ≡ 3 = ap (λ (q : PageValue). q.sources) is ∙ three in
+    subst (λ (q : PageValue). All (HasKnownSource 3) q.marks) is
     (subst (λ (n : ℕ). All (HasKnownSource n) p.marks) sources kept.known)
 
 -- and those of one clip number have one clip
@@ -172,10 +169,10 @@ marks_here page lists band list d parts was less is same are once marks other =
 
 -- so they go by known sources where those of the page do
 pub known_here : (page : PageValue) (rows band : ℕ) (marks : List MarkValue)
-    → map without_number (band_marks page.height rows band page.marks) ≡ marks → All (HasKnownSource 2) page.marks
-    → All (HasKnownSource 2) marks
+    → map without_number (band_marks page.height rows band page.marks) ≡ marks → All (HasKnownSource 3) page.marks
+    → All (HasKnownSource 3) marks
 known_here page rows band marks are known =
-    subst (λ (ms : List MarkValue). All (HasKnownSource 2) ms) are (known_said (meets page.height rows band) page.marks
+    subst (λ (ms : List MarkValue). All (HasKnownSource 3) ms) are (known_said (meets page.height rows band) page.marks
     known)
 
 -- and have their channels

@@ -3,13 +3,13 @@
 use Rattle.std.specs.Prelude.{ℕ, ◌-◌, ◌*◌, ◌+◌, List, [], ◌∷◌, slice_index, if◌then◌else◌, ◌==◌}
 use Rattle.press_fault.specs.Plane.{CodeValue}
 
--- how many channels the codes of a source have: one, or three for source 1
+-- how many channels the codes of a source have: three, or one for source 0
 abbrev pub channels_of : ℕ → ℕ
-channels_of source = if source == 1 then 3 else 1
+channels_of source = if source == 0 then 1 else 3
 
 -- the blue of a source
 abbrev pub blue_of : ℕ → ℕ
-blue_of source = if source == 1 then 200 else 100
+blue_of source = if source == 2 then 200 else 100
 
 -- the colour of a source's code
 abbrev pub colour_of : ℕ → CodeValue → List ℕ

@@ -64,10 +64,21 @@ fn rule(numbers: &mut Numbers) -> Rule {
     }
 }
 
-/// The code of red, green and blue.
-fn rgb(numbers: &mut Numbers) -> Code
+/// A code of three channels, one of a few, so that sources have codes in common.
+fn tones(numbers: &mut Numbers) -> Code
     ensures { result.n ≡ 3 }
 {
+    let first = numbers.tone();
+    let second = numbers.tone();
+    let third = numbers.tone();
+    Code {
+        n: 3,
+        c: [first, second, third, 0],
+    }
+}
+
+/// The code of red, green and blue.
+fn rgb(numbers: &mut Numbers) -> Code {
     let red = numbers.byte();
     let green = numbers.byte();
     let blue = numbers.byte();
@@ -90,25 +101,33 @@ fn cmyk(numbers: &mut Numbers) -> Code {
 }
 
 fn ink(numbers: &mut Numbers) -> Ink
-    ensures source { IsNumbered 2 (ink_source result) }
+    ensures source { IsNumbered 3 (ink_source result) }
     ensures channels { InkHasChannels channels_of result }
 {
-    match numbers.below(6) {
+    match numbers.below(8) {
         0 => Ink::Plain(Code::gray(numbers.byte())),
         1 => Ink::Plain(rgb(numbers)),
         2 => Ink::Plain(cmyk(numbers)),
         3 => Ink::Linked {
             source: 0,
-            code: Code::gray(numbers.byte()),
+            code: Code::gray(numbers.tone()),
+        },
+        4 => Ink::Linked {
+            source: 1,
+            code: tones(numbers),
+        },
+        5 => Ink::Linked {
+            source: 1,
+            code: tones(numbers),
         },
         _ => Ink::Linked {
-            source: 1,
-            code: rgb(numbers),
+            source: 2,
+            code: tones(numbers),
         },
     }
 }
 
-/// Samples of 8 bits: of a mask, 0 and 255 alone.
+/// Samples of a few values: of a mask, 0 and 255 alone.
 fn samples(numbers: &mut Numbers, alloc: Global, count: u32, is_mask: bool) -> Mem<Bytes>
     ensures { IfOk result (λ bytes. length bytes ≡ count) }
 {
@@ -117,7 +136,7 @@ fn samples(numbers: &mut Numbers, alloc: Global, count: u32, is_mask: bool) -> M
         let byte = if is_mask {
             if numbers.below(2) == 0 { 0 } else { 255 }
         } else {
-            numbers.byte()
+            numbers.tone()
         };
         bytes.push(byte)?;
     }
@@ -191,10 +210,10 @@ fn image(
 /// An image with or without a source, or a mask.
 fn paint(numbers: &mut Numbers, alloc: Global) -> Mem<Paint>
     ensures suited { IfOk result (λ paint. IsSuited [] (painting_of paint)) }
-    ensures source { IfOk result (λ paint. IsNumbered 2 (painting_source (painting_of paint))) }
+    ensures source { IfOk result (λ paint. IsNumbered 3 (painting_source (painting_of paint))) }
     ensures channels { IfOk result (λ paint. PaintingHasChannels channels_of (painting_of paint)) }
 {
-    match numbers.below(4) {
+    match numbers.below(5) {
         0 => {
             let image = image(numbers, alloc, 3, Some(1), false)?;
             Ok(Paint::Image(Arc::new(alloc, image)?))
@@ -205,6 +224,10 @@ fn paint(numbers: &mut Numbers, alloc: Global) -> Mem<Paint>
         }
         2 => {
             let image = image(numbers, alloc, 1, Some(0), false)?;
+            Ok(Paint::Image(Arc::new(alloc, image)?))
+        }
+        3 => {
+            let image = image(numbers, alloc, 3, Some(2), false)?;
             Ok(Paint::Image(Arc::new(alloc, image)?))
         }
         _ => {
@@ -248,7 +271,7 @@ fn clips(numbers: &mut Numbers, alloc: Global) -> Mem<[Arc<Clip>; 3]> {
 /// A mark of shapes, clipped by the clip of a number.
 fn filled(numbers: &mut Numbers, alloc: Global, clip: Arc<Clip>, number: u32) -> Mem<Mark>
     requires { number < 3 }
-    ensures source { IfOk result (HasKnownSource 2) }
+    ensures source { IfOk result (HasKnownSource 3) }
     ensures channels { IfOk result (HasChannels channels_of) }
     ensures number { IfOk result (λ mark. mark.clip_number ≡ Some number) }
     ensures clip { IfOk result (λ mark. mark.clip ≡ arc_value clip) }
@@ -268,7 +291,7 @@ fn filled(numbers: &mut Numbers, alloc: Global, clip: Arc<Clip>, number: u32) ->
 /// A mark of an image or a mask, clipped by the clip of a number.
 fn placed(numbers: &mut Numbers, alloc: Global, clip: Arc<Clip>, number: u32) -> Mem<Mark>
     requires { number < 3 }
-    ensures source { IfOk result (HasKnownSource 2) }
+    ensures source { IfOk result (HasKnownSource 3) }
     ensures channels { IfOk result (HasChannels channels_of) }
     ensures number { IfOk result (λ mark. mark.clip_number ≡ Some number) }
     ensures clip { IfOk result (λ mark. mark.clip ≡ arc_value clip) }
@@ -286,7 +309,7 @@ fn placed(numbers: &mut Numbers, alloc: Global, clip: Arc<Clip>, number: u32) ->
 /// A mark that takes one of the clips.
 fn mark(numbers: &mut Numbers, alloc: Global, clips: &[Arc<Clip>]) -> Mem<Mark>
     requires { length clips.now ≡ 3 }
-    ensures source { IfOk result (HasKnownSource 2) }
+    ensures source { IfOk result (HasKnownSource 3) }
     ensures channels { IfOk result (HasChannels channels_of) }
     ensures clip { IfOk result (HasClipOfNumber (clip_at (map arc_value clips.now))) }
 {
@@ -301,7 +324,7 @@ fn mark(numbers: &mut Numbers, alloc: Global, clips: &[Arc<Clip>]) -> Mem<Mark>
 
 /// A page of 40 columns and 70 rows with so many marks.
 #[tactic(auto, using(crate::proofs::Lists::numbered))]
-pub fn page(seed: u32, alloc: Global, count: u32) -> Mem<Page>
+pub fn page(alloc: Global, seed: u32, count: u32) -> Mem<Page>
     requires { count ≤ 1000 }
     ensures { IfOk result IsTinted }
 {
@@ -314,7 +337,7 @@ pub fn page(seed: u32, alloc: Global, count: u32) -> Mem<Page>
     Ok(Page {
         width: 40,
         height: 70,
-        sources: 2,
+        sources: 3,
         marks,
     })
 }

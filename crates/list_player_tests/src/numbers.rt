@@ -25,6 +25,15 @@ impl Numbers {
         self.below(256) as u8
     }
 
+    /// One of three bytes.
+    pub fn tone(&mut self) -> u8 {
+        match self.below(3) {
+            0 => 0,
+            1 => 128,
+            _ => 255,
+        }
+    }
+
     /// A coordinate near a page of so many dots, in sub-dots.
     pub fn coordinate(&mut self, dots: u32) -> i32
         requires { dots ≤ 1000 }

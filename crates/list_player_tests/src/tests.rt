@@ -12,7 +12,13 @@ use std::process::Abort;
 use std::test::Fail;
 
 /// The dots of a band, where it lends what it needs and no more.
-fn band_dots<R: Abort>(rt: &R, alloc: Global, page: &Page, lists: &BandLists, band: u32) -> Mem<Option<Vec<u8>>>
+fn band_dots<R: Abort>(
+    rt: &R,
+    alloc: Global,
+    page: &Page,
+    lists: &BandLists,
+    band: u32,
+) -> Mem<Option<Vec<u8>>>
     requires page { IsTinted page.now }
     requires split { WasSplit page.now lists.now }
     requires rows { 0 < lists.now.parts.band }
@@ -35,7 +41,12 @@ fn band_dots<R: Abort>(rt: &R, alloc: Global, page: &Page, lists: &BandLists, ba
 }
 
 /// The dots of the bands, from the top, where each lends what it needs and no more.
-fn bands_dots<R: Abort>(rt: &R, alloc: Global, page: &Page, lists: &BandLists) -> Mem<Option<Vec<u8>>>
+fn bands_dots<R: Abort>(
+    rt: &R,
+    alloc: Global,
+    page: &Page,
+    lists: &BandLists,
+) -> Mem<Option<Vec<u8>>>
     requires page { IsTinted page.now }
     requires split { WasSplit page.now lists.now }
     requires rows { 0 < lists.now.parts.band }
@@ -51,7 +62,14 @@ fn bands_dots<R: Abort>(rt: &R, alloc: Global, page: &Page, lists: &BandLists) -
 }
 
 /// Whether a page in bands of so many rows has these dots, and each band lends what it needs and no more.
-fn is_drawn<R: Abort>(rt: &R, alloc: Global, page: &Page, rows: u32, depth: Depth, dots: &[u8]) -> Mem<bool>
+fn is_drawn<R: Abort>(
+    rt: &R,
+    alloc: Global,
+    page: &Page,
+    rows: u32,
+    depth: Depth,
+    dots: &[u8],
+) -> Mem<bool>
     requires page { IsTinted page.now }
     requires rows { 0 < rows }
 {
@@ -97,24 +115,28 @@ fn wide_dots(alloc: Global, page: &Page) -> Mem<Vec<u8>>
 fn is_same<R: Abort>(rt: &R, alloc: Global, seed: u32, marks: u32) -> Mem<bool>
     requires { marks ≤ 1000 }
 {
-    let page = page(seed, alloc, marks)?;
+    let page = page(alloc, seed, marks)?;
     let plain = plain_dots(alloc, &page)?;
-    Ok(is_drawn(rt, alloc, &page, 1, Depth::Eight, &plain)?
-        && is_drawn(rt, alloc, &page, 3, Depth::Eight, &plain)?
-        && is_drawn(rt, alloc, &page, 7, Depth::Eight, &plain)?
-        && is_drawn(rt, alloc, &page, 64, Depth::Eight, &plain)?
-        && is_drawn(rt, alloc, &page, 70, Depth::Eight, &plain)?)
+    Ok(
+        is_drawn(rt, alloc, &page, 1, Depth::Eight, &plain)?
+            && is_drawn(rt, alloc, &page, 3, Depth::Eight, &plain)?
+            && is_drawn(rt, alloc, &page, 7, Depth::Eight, &plain)?
+            && is_drawn(rt, alloc, &page, 64, Depth::Eight, &plain)?
+            && is_drawn(rt, alloc, &page, 70, Depth::Eight, &plain)?,
+    )
 }
 
 /// Whether a page of generated marks is the same at 16 bits by bands of some heights and by its definition.
 fn is_same_wide<R: Abort>(rt: &R, alloc: Global, seed: u32, marks: u32) -> Mem<bool>
     requires { marks ≤ 1000 }
 {
-    let page = page(seed, alloc, marks)?;
+    let page = page(alloc, seed, marks)?;
     let wide = wide_dots(alloc, &page)?;
-    Ok(is_drawn(rt, alloc, &page, 1, Depth::Sixteen, &wide)?
-        && is_drawn(rt, alloc, &page, 7, Depth::Sixteen, &wide)?
-        && is_drawn(rt, alloc, &page, 64, Depth::Sixteen, &wide)?)
+    Ok(
+        is_drawn(rt, alloc, &page, 1, Depth::Sixteen, &wide)?
+            && is_drawn(rt, alloc, &page, 7, Depth::Sixteen, &wide)?
+            && is_drawn(rt, alloc, &page, 64, Depth::Sixteen, &wide)?,
+    )
 }
 
 #[test]

@@ -1,4 +1,4 @@
-//! Colours of two sources, by a rule.
+//! Colours of three sources, by a rule.
 ghost use Rattle.std.specs.Prelude.{◌≡◌, ◌<◌};
 ghost use Rattle.list_player_tests.specs.Tints.{blue_of, channels_of, colour_of, low_of, wide_of};
 
@@ -11,7 +11,7 @@ use std::process::Abort;
 fn blue(source: u32) -> u8
     ensures { result ≡ blue_of source }
 {
-    if source == 1 { 200 } else { 100 }
+    if source == 2 { 200 } else { 100 }
 }
 
 fn colour(source: u32, code: Code) -> [u8; 3]
@@ -34,14 +34,18 @@ fn wide(source: u32, code: Code) -> [u16; 3]
     let [first, second, _, _] = code.c;
     let blue = u16::from(blue(source));
     let second = u16::from(second);
-    [u16::from(first) * 256 + 7, (255 - second) * 256 + second, blue * 256 + (blue - 50)]
+    [
+        u16::from(first) * 256 + 7,
+        (255 - second) * 256 + second,
+        blue * 256 + (blue - 50),
+    ]
 }
 
 /// The page's own table, for the program of the definition.
 pub struct Tints;
 
 impl Table for Tints {
-    ghost sources = { λ table. 2 };
+    ghost sources = { λ table. 3 };
 
     ghost channels = { λ table source. channels_of source };
 
@@ -56,7 +60,7 @@ impl Table for Tints {
 pub struct LowTints;
 
 impl Table for LowTints {
-    ghost sources = { λ table. 2 };
+    ghost sources = { λ table. 3 };
 
     ghost channels = { λ table source. channels_of source };
 
@@ -80,7 +84,7 @@ impl Lent for Tint {
     ghost wide = { λ loan code. wide_of loan.source code };
 
     fn channels(&self) -> u8 {
-        if self.source == 1 { 3 } else { 1 }
+        if self.source == 0 { 1 } else { 3 }
     }
 
     fn convert(&self, code: Code) -> [u8; 3] {
@@ -92,7 +96,7 @@ impl Lent for Tint {
     }
 }
 
-/// The colours of both sources, and those that were lent, in order. It stops the program where more loans are asked
+/// The colours of all sources, and those that were lent, in order. It stops the program where more loans are asked
 /// than it can count.
 #[derive(Drop)]
 pub struct Palette<'r, R: Abort> {
@@ -113,7 +117,7 @@ impl<'r, R: Abort> Colours for Palette<'r, R> {
 
     ghost wide = { λ p source code. wide_of source code };
 
-    ghost sources = { λ p. 0 ∷ 1 ∷ [] };
+    ghost sources = { λ p. 0 ∷ 1 ∷ 2 ∷ [] };
 
     ghost count = { λ p. length p.lent.items };
 
@@ -126,7 +130,10 @@ impl<'r, R: Abort> Colours for Palette<'r, R> {
     ghost owns = { λ p loan. Unit };
 
     fn lend(&mut self, _alloc: Global, source: u32) -> Mem<Tint> {
-        self.tries = self.tries.checked_add(1).expect(self.rt, "more loans than can be counted");
+        self.tries = self
+            .tries
+            .checked_add(1)
+            .expect(self.rt, "more loans than can be counted");
         self.lent.push(source)?;
         self.is_busy = true;
         Ok(Tint { source })

@@ -9,7 +9,7 @@ use Rattle.list_player_tests.proofs.marks.page.Given as goal
 abbrev pub invariant-loop-mark : goal.invariant-loop-mark
 invariant-loop-mark l = record {
   count : length l.marks ≡ l._mark;
-  sources : All (HasKnownSource 2) l.marks;
+  sources : All (HasKnownSource 3) l.marks;
   channels : All (HasChannels channels_of) l.marks;
   clips : All (HasClipOfNumber (clip_at (map arc_value l.clips))) l.marks;
 }

@@ -17,7 +17,8 @@ play-requires-clause-known g c marks said = needs_here marks
     (page_known _ c.args.page.now c.page.view_is c.page.invariant c.requires.page.sources))
 
 pub play-requires-clause-channels : goal.play-requires-clause-channels
-play-requires-clause-channels g c marks said = channels_here c.args.page.now c.args.lists.now.parts.band c.args.band marks
+play-requires-clause-channels g c marks said = channels_here c.args.page.now c.args.lists.now.parts.band c.args.band
+    marks
     (marks_here c.args.page.now c.args.lists.now c.args.band c.list.result.now _ _ c.requires.split c.requires.band
     c.list.ensures c.parts.ensures
     (c.lists_say_their_marks.ensures c.args.page.now _ c.args.band _
